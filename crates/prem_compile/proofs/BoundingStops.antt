@@ -5,7 +5,7 @@ use Rattle.std.proofs.Common.{◌≡◌, List, Option, None, Result, Ok, Err, ap
 use Rattle.prem_plant.specs.declared.layout.PartSize.{PartSize}
 use Rattle.prem_plant.specs.Places.{Extent, default_places}
 use Rattle.prem_layout.specs.Rules.{LateRule, Refusal, or_else, refused_by, memory_rules}
-use Rattle.prem_place.specs.declared.placing.coded.CodedTask.{CodedTask}
+use Rattle.prem_prefetch.specs.declared.sizes.coded.CodedTask.{CodedTask}
 use Rattle.prem_place.specs.declared.verdict.told.TaskBounds.{TaskBounds}
 use Rattle.prem_tasks.specs.Broken.{TaskSet, late_refusal}
 use Rattle.prem_tasks.specs.Told.{Told}

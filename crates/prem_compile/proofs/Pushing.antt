@@ -8,7 +8,7 @@ use Rattle.prem_list.specs.Sequence.{items_of}
 use Rattle.prem_plant.specs.declared.plant.Target.{Target}
 use Rattle.prem_plant.specs.declared.plant.Device.{Device}
 use Rattle.prem_plant.specs.declared.layout.PartSize.{PartSize}
-use Rattle.prem_syntax.specs.Syntax.{ProgramText}
+use Rattle.prem_syntax.specs.Syntax.{ProgramText, Text}
 use Rattle.prem_syntax.specs.Name.{name_bytes}
 use Rattle.prem_syntax.specs.SyntaxOf.{global_of}
 use Rattle.prem_syntax.specs.declared.tree.Global.{Global as GlobalTree}
@@ -21,8 +21,8 @@ use Rattle.prem_split.specs.PlanOf.{plan_of}
 use Rattle.prem_split.specs.declared.plan.IntervalPlan.{IntervalPlan}
 use Rattle.prem_prefetch.specs.Sizes.Sizes.{AreCodesOf, MayHavePlaces}
 use Rattle.prem_prefetch.proofs.SizesLemmas.Programs.{as_many_codes as codes_long}
-use Rattle.prem_place.specs.declared.placing.coded.CodedTask.{CodedTask}
-use Rattle.prem_place.specs.Placing.CodedOf.{IsCodedTask, coded_in as coded_task}
+use Rattle.prem_prefetch.specs.declared.sizes.coded.CodedTask.{CodedTask}
+use Rattle.prem_prefetch.specs.Sizes.CodedOf.{IsCodedTask, coded_in as coded_task}
 use Rattle.prem_place.proofs.PlacingLemmas.Placing.{routines_long}
 use Rattle.prem_place.proofs.PlacingLemmas.Stood.{are_counted}
 use Rattle.prem_color.specs.Standing.{PlanStands, TasksStand}
@@ -35,9 +35,11 @@ use Rattle.prem_tasks.specs.Compiled.{coded_in, parts_in, part_name}
 use Rattle.prem_tasks.specs.Lawful.{IsTaskText, AreTasks}
 use Rattle.prem_tasks.specs.SetOf.{task_of}
 use Rattle.prem_tasks.specs.declared.set.TaskText.{TaskText as TaskTree}
-use Rattle.prem_compile.specs.Coding.Tasks.{AreTasksOf}
+use Rattle.prem_compile.specs.Joined.{HasCode}
+use Rattle.prem_compile.specs.Telling.Named.{AreNamed}
+use Rattle.prem_compile.specs.declared.telling.names.NamedParts.{NamedParts}
 use Rattle.prem_compile.specs.PartsOf.{AreParts}
-use Rattle.prem_compile.specs.Telling.There.{HasName, HasCode, IsThere}
+use Rattle.prem_compile.specs.Telling.There.{HasName, HasCode as CodeIsThere, IsThere}
 use Rattle.prem_compile.specs.declared.parts.Parts.{Parts}
 use Rattle.prem_compile.proofs.TellingLemmas.PartsThere.{parts_there}
 use Rattle.prem_compile.proofs.Wanting.{tasks_stand}
@@ -48,13 +50,13 @@ pub record IsCounted (t : CodedTask) (count : ℕ) : Type 0 where
   pub is : count ≡ part_count (coded_task t).program
   pub few : count ≤ 1024
 
-pub counted : (t : CodedTask) (functions plans globals : ℕ) → IsCodedTask t → functions ≡ length (items_of t.program.now.routines) →
-    plans ≡ length (items_of t.plans) → globals ≡ length t.program.now.globals.items →
+pub counted : (t : CodedTask) (functions plans globals : ℕ) → IsCodedTask t → functions ≡ length (items_of t.program.routines) →
+    plans ≡ length (items_of t.plans) → globals ≡ length t.program.globals.items →
     IsCounted t (2 + functions + plans + globals)
 counted t functions plans globals h ef ep eg =
-    let a = routines_long (slice_index t.turns.now) 0 (items_of t.program.now.routines) in
+    let a = routines_long (slice_index t.turns.items) 0 (items_of t.program.routines) in
     let b : length (items_of t.plans) ≡ length (plans_of (coded_task t).program) = sym (length-map (items_of t.plans) plan_of) ∙ ap length h.plans in
-    let d = length-map t.program.now.globals.items (λ (g : Bor GlobalTree). global_of g.now) in
+    let d = length-map t.program.globals.items (λ (g : Bor GlobalTree). global_of g.now) in
     let most = are_counted h.text h.bounds h.formed in
     let r = ap (λ (q : Resolved). length q.routines) h.same in
     let p = ap (λ (q : Resolved). length (plans_of q)) h.same in
@@ -64,9 +66,9 @@ counted t functions plans globals h ef ep eg =
     let mg = most.globals in
     record { is = omega (arith, ef, ep, eg, a, b, d); few = omega (arith, ef, ep, eg, a, b, d, r, p, g, mr, mp, mg) }
 
-module _ (t : CodedTask) (is : IsCodedTask t) (shape : ShapeInMemory) (plans : List IntervalPlan) (made : shape_in shape ≡ shape_with t.program.now) (lent : plans ≡ items_of t.plans) where
+module _ (t : CodedTask) (is : IsCodedTask t) (shape : ShapeInMemory) (plans : List IntervalPlan) (made : shape_in shape ≡ shape_with t.program) (lent : plans ≡ items_of t.plans) where
   shape_same : shape_in shape ≡ shape_of (coded_task t).program
-  shape_same = made ∙ shape_is (slice_index t.turns.now) t.program.now
+  shape_same = made ∙ shape_is (slice_index t.turns.items) t.program
 
   plans_same : map plan_of plans ≡ plans_of (coded_task t).program
   plans_same = ap (map plan_of) lent ∙ is.plans
@@ -91,43 +93,49 @@ names_given target [] ps h = tt
 names_given target (t ∷ ts) [] h = tt
 names_given target (t ∷ ts) (p ∷ ps) h = (h.0.name, names_given target ts ps h.1)
 
-code_given : (ps : List ProgramText) (cs : List Coded) → AreCodesOf ps cs → AllByRecursion HasCode cs
+code_given : (ps : List ProgramText) (cs : List Coded) → AreCodesOf ps cs → AllByRecursion CodeIsThere cs
 code_given ps [] h = tt
 code_given [] (c ∷ cs) h = absurd h
 code_given (p ∷ ps) (c ∷ cs) h =
     let long = ap length h.0.code ∙ codes_long (code_parts_of h.0.target c.program.routines) c.program.routines in
     (omega (arith, long), code_given ps cs h.1)
 
-module _ (set : TaskSet) (tasks : List CodedTask) (h : AreTasksOf set tasks) where
+module _ (set : TaskSet) (tasks : List CodedTask) (h : HasCode set tasks) where
+  coded_is : map coded_task tasks ≡ coded_in set
+  coded_is = h.tasks_are.same
+
   pub coded_names : (ts : List TaskTree) → AreTasks ts → map task_of ts ≡ set.tasks → AllByRecursion HasName (map coded_task tasks)
   coded_names ts stated same =
       let all : coded_of set.plant.target (map task_of ts) (programs_of set.tasks) ≡ map coded_task tasks =
-      ap (λ (texts : List TaskText). coded_of set.plant.target texts (programs_of set.tasks)) same ∙ sym h.same in
+      ap (λ (texts : List TaskText). coded_of set.plant.target texts (programs_of set.tasks)) same ∙ sym coded_is in
       subst (AllByRecursion HasName) all (names_given set.plant.target ts (programs_of set.tasks) (recursion_from_All IsTaskText ts stated.each))
 
-  pub coded_there : (devices : List Device) (sizes lent : List PartSize) → AreCodesOf (programs_of set.tasks) (coded_in set) → devices ≡ set.devices →
-      sizes ≡ parts_in set → lent ≡ sizes → All (IsThere devices (map coded_task tasks)) lent
-  coded_there devices sizes lent codes ed es el =
+  pub coded_there : (devices : List Device) (sizes lent : List PartSize) → devices ≡ set.devices → sizes ≡ parts_in set → lent ≡ sizes → All (IsThere devices (map coded_task tasks)) lent
+  coded_there devices sizes lent ed es el =
       subst (λ (ps : List PartSize). All (IsThere devices (map coded_task tasks)) ps) (sym (el ∙ es))
       (subst (λ (ds : List Device). All (IsThere ds (map coded_task tasks)) (parts_in set)) (sym ed)
-      (subst (λ (cs : List Coded). All (IsThere set.devices cs) (parts_in set)) (sym h.same)
-      (parts_there set.plant set.devices (coded_in set) (code_given (programs_of set.tasks) (coded_in set) codes))))
+      (subst (λ (cs : List Coded). All (IsThere set.devices cs) (parts_in set)) (sym coded_is)
+      (parts_there set.plant set.devices (coded_in set) (code_given (programs_of set.tasks) (coded_in set) h.codes_are))))
 
-  pub coded_stand : (sizes lent : List PartSize) → AreCodesOf (programs_of set.tasks) (coded_in set) → sizes ≡ parts_in set → lent ≡ sizes → TasksStand lent 0 (map coded_task tasks)
-  coded_stand sizes lent codes es el =
+  -- the names are those of the set, as devices and sizes are lent
+  pub names_told : (devices : List Device) (sizes lent : List PartSize) (names : List Text) → devices ≡ set.devices → sizes ≡ parts_in set → lent ≡ sizes →
+      names ≡ map (part_name devices (map coded_task tasks)) lent → names ≡ map (part_name set.devices (coded_in set)) (parts_in set)
+  names_told devices sizes lent names ed es el told =
+      told ∙ ap (λ (ds : List Device). map (part_name ds (map coded_task tasks)) lent) ed ∙ ap (λ (cs : List Coded). map (part_name set.devices cs) lent) coded_is
+      ∙ ap (λ (ps : List PartSize). map (part_name set.devices (coded_in set)) ps) (el ∙ es)
+
+  pub coded_stand : (sizes lent : List PartSize) → sizes ≡ parts_in set → lent ≡ sizes → TasksStand lent 0 (map coded_task tasks)
+  coded_stand sizes lent es el =
       subst (λ (ps : List PartSize). TasksStand ps 0 (map coded_task tasks)) (sym (el ∙ es))
-      (subst (λ (cs : List Coded). TasksStand (parts_in set) 0 cs) (sym h.same) (tasks_stand set codes))
+      (subst (λ (cs : List Coded). TasksStand (parts_in set) 0 cs) (sym coded_is) (tasks_stand set h.codes_are))
 
-  -- what is told of all parts together, as the sizes are lent three times
-  pub parts_told : (devices : List Device) (sizes named wanted listed : List PartSize) (p : Parts) → AreCodesOf (programs_of set.tasks) (coded_in set) → devices ≡ set.devices → sizes ≡ parts_in set →
-      MayHavePlaces set.plant.line sizes → named ≡ sizes → wanted ≡ sizes → listed ≡ sizes → items_of p.sizes ≡ listed →
-      map name_bytes (items_of p.names) ≡ map (part_name devices (map coded_task tasks)) named → map want_of (items_of p.wants) ≡ wants_of wanted (map coded_task tasks) → AreParts set p
-  parts_told devices sizes named wanted listed p codes ed es may en ew el told names wants = record {
-    sizes = told ∙ el ∙ es;
-    names =
-        names ∙ ap (λ (ds : List Device). map (part_name ds (map coded_task tasks)) named) ed ∙ ap (λ (cs : List Coded). map (part_name set.devices cs) named) h.same
-        ∙ ap (λ (ps : List PartSize). map (part_name set.devices (coded_in set)) ps) (en ∙ es);
-    wants = wants ∙ ap (λ (ps : List PartSize). wants_of ps (map coded_task tasks)) (ew ∙ es) ∙ ap (λ (cs : List Coded). wants_of (parts_in set) cs) h.same;
-    may = subst (MayHavePlaces set.plant.line) es may;
-    stand = tasks_stand set codes;
+  -- what is told of all parts together, as the sizes are lent
+  pub parts_told : (named : NamedParts) (lent : List PartSize) (p : Parts) → AreNamed set named → MayHavePlaces set.plant.line (parts_in set) → lent ≡ named.sizes.items →
+      items_of p.sizes ≡ named.sizes.items → p.names ≡ named.names → map want_of (items_of p.wants) ≡ wants_of lent (map coded_task tasks) → AreParts set p
+  parts_told named lent p are may el sizes names wants = record {
+    sizes = sizes ∙ are.sizes;
+    names = ap (λ ns. map name_bytes (items_of ns)) names ∙ are.names;
+    wants = wants ∙ ap (λ (ps : List PartSize). wants_of ps (map coded_task tasks)) (el ∙ are.sizes) ∙ ap (λ (cs : List Coded). wants_of (parts_in set) cs) coded_is;
+    may = may;
+    stand = tasks_stand set h.codes_are;
   }

@@ -1,5 +1,4 @@
 -- What an image asks of placed tasks holds of the tasks of a set.
-use Rattle.std.specs.Prelude.{All}
 use Rattle.std.specs.List.{AllByRecursion}
 use Rattle.std.proofs.Common.{◌≡◌, ℕ, List, [], ◌∷◌, length, map, refl, ap, sym, ◌∙◌, subst, arith, Vec, Global}
 use Rattle.std.proofs.lemmas.List.Elements.{recursion_from_All}
@@ -29,9 +28,11 @@ use Rattle.prem_tasks.specs.Lawful as lawful
 use Rattle.prem_tasks.specs.Lawful.{IsTaskText, AreDevices, AreTasks}
 use Rattle.prem_tasks.specs.SetOf.{task_of}
 use Rattle.prem_tasks.specs.declared.set.TaskText.{TaskText as TaskTree}
-use Rattle.prem_compile.specs.Telling.There.{IsThere, HasName, HasCode}
+use Rattle.prem_tasks.specs.Compiled.{coded_in, parts_in, part_name, facts_from, job_bounds}
+use Rattle.prem_tasks.specs.At.{placed_by, compiled_at}
+use Rattle.prem_compile.specs.CompiledOf.{compiled_of}
+use Rattle.prem_compile.specs.declared.compiled.Compiled.{Compiled}
 use Rattle.prem_compile.specs.Joined.{HasPlaces}
-use Rattle.prem_compile.proofs.TellingLemmas.PartsThere.{parts_there}
 
 first_is : {A : Type 0} (x y : A) (xs ys : List A) → x ∷ xs ≡ y ∷ ys → x ≡ y
 first_is x y xs ys e = cc
@@ -68,7 +69,7 @@ ranges_of target x t p here s is =
     let name : x.name.now ≡ t.name = ap (λ (c : Coded). c.name) here in
     let period : x.period ≡ t.period = ap (λ (c : Coded). c.period) here in
     let jobs : x.jobs ≡ t.jobs = ap (λ (c : Coded). c.jobs) here in
-    let globals : length (coded_of x).program.globals ≡ length x.program.now.globals.items = length-map x.program.now.globals.items _ in
+    let globals : length (coded_of x).program.globals ≡ length x.program.globals.items = length-map x.program.globals.items _ in
     let few = s.few in
     record {
       name = subst IsName (sym name) is.name;
@@ -139,39 +140,39 @@ lent_is_built set p ds ts parts layout xs all ep ed plant devices stated same h 
     let here : IsBuilt p xs bss set.devices layout = subst (λ (q : Plant). IsBuilt q xs bss set.devices layout) (sym ep) base in
     subst (λ (es : List Device). IsBuilt p xs bss es layout) (sym ed) here
 
--- ---- what names and the limit ask for
+-- ---- what the limit asks for
 
-has_names : (xs : List PlacedTask) → AllByRecursion HasRanges xs → AllByRecursion HasName (map coded_of xs)
-has_names [] h = tt
-has_names (x ∷ xs) h = (h.0.name, has_names xs h.1)
+have_jobs : (xs : List PlacedTask) → AllByRecursion HasRanges xs → AllByRecursion HasJobs xs
+have_jobs [] h = tt
+have_jobs (x ∷ xs) h = (h.0.jobs.1, have_jobs xs h.1)
 
-has_jobs : (xs : List PlacedTask) → AllByRecursion HasRanges xs → AllByRecursion HasJobs xs
-has_jobs [] h = tt
-has_jobs (x ∷ xs) h = (h.0.jobs.1, has_jobs xs h.1)
-
-has_code : (xs : List PlacedTask) → AllByRecursion HasRanges xs → AllByRecursion HasCode (map coded_of xs)
-has_code [] h = tt
-has_code (x ∷ xs) h = let same = h.0.code in (omega (arith, same), has_code xs h.1)
-
--- what a set's placed tasks are
-pub record AreReady (set : TaskSet) (parts : List PartSize) (xs : List PlacedTask) : Type 0 where
-  pub names : AllByRecursion HasName (map coded_of xs)
-  pub jobs : AllByRecursion HasJobs xs
-  pub there : All (IsThere set.devices (map coded_of xs)) parts
-
-pub tasks_are_ready : (set : TaskSet) (ts : List TaskTree) (parts : List PartSize) (layout : List Extent) (xs : List PlacedTask) →
-    AreTasks ts → map task_of ts ≡ set.tasks → HasPlaces set parts layout xs → AreReady set parts xs
-tasks_are_ready set ts parts layout xs stated same h =
+pub tasks_have_jobs : (set : TaskSet) (ts : List TaskTree) (parts : List PartSize) (layout : List Extent) (xs : List PlacedTask) →
+    AreTasks ts → map task_of ts ≡ set.tasks → HasPlaces set parts layout xs → AllByRecursion HasJobs xs
+tasks_have_jobs set ts parts layout xs stated same h =
     let coded : map coded_of xs ≡ coded_all set.plant.target ts (programs_of set.tasks) = h.coded
     ∙ ap (λ (texts : List TaskText). tasks.coded_of set.plant.target texts (programs_of set.tasks)) (sym same) in
     let long : length (programs_of set.tasks) ≡ length ts = h.as_many ∙ ap (λ (texts : List TaskText). length texts) (sym same) ∙ length-map ts task_of in
-    let ranges : AllByRecursion HasRanges xs = each_in_range set.plant.target xs ts (programs_of set.tasks) coded long h.standing (recursion_from_All IsTaskText ts stated.each) in
-    let all : parts_of set.plant set.devices (map coded_of xs) ≡ parts = ap (λ (cs : List Coded). parts_of set.plant set.devices cs) h.coded ∙ sym h.parts_are in
-    record {
-      names = has_names xs ranges;
-      jobs = has_jobs xs ranges;
-      there = subst (λ (ps : List PartSize). All (IsThere set.devices (map coded_of xs)) ps) all (parts_there set.plant set.devices (map coded_of xs) (has_code xs ranges));
-    }
+    have_jobs xs (each_in_range set.plant.target xs ts (programs_of set.tasks) coded long h.standing (recursion_from_All IsTaskText ts stated.each))
 
-pub lent_there : (set : TaskSet) (ds : List Device) (parts : List PartSize) (xs : List PlacedTask) → ds ≡ set.devices → AreReady set parts xs → All (IsThere ds (map coded_of xs)) parts
-lent_there set ds parts xs ed ready = subst (λ (es : List Device). All (IsThere es (map coded_of xs)) parts) (sym ed) ready.there
+-- ---- what is told of all parts together
+
+pub compiled_is : (set : TaskSet) (parts : List PartSize) (layout : List Extent) (xs : List PlacedTask) (c : Compiled) → HasPlaces set parts layout xs →
+    image_text c.image ≡ image_of set.plant set.devices layout (map coded_of xs) → c.layout ≡ layout → items_of c.parts ≡ parts →
+    map name_bytes (items_of c.names) ≡ map (part_name set.devices (coded_in set)) (parts_in set) → map numbered (items_of c.intervals) ≡ facts_from set.plant 0 (map placed_of xs) →
+    items_of c.jobs ≡ map (λ (j : JobBound). j.bound) (job_bounds set.plant (map placed_of xs)) → c.limit ≡ limit_of (job_bounds set.plant (map placed_of xs)) → compiled_of c ≡ compiled_at set layout
+compiled_is set parts layout xs c h image at all names intervals jobs limit =
+    let image_is : image_text c.image ≡ image_of set.plant set.devices layout (coded_in set) = image ∙ ap (λ (cs : List Coded). image_of set.plant set.devices layout cs) h.coded in
+    let parts_are : items_of c.parts ≡ parts_in set = all ∙ h.parts_are in
+    let intervals_are : map numbered (items_of c.intervals) ≡ facts_from set.plant 0 (placed_by set layout) = intervals ∙ ap (λ (ps : List Placed). facts_from set.plant 0 ps) h.placed in
+    let jobs_are : items_of c.jobs ≡ map (λ (j : JobBound). j.bound) (job_bounds set.plant (placed_by set layout)) =
+    jobs ∙ ap (λ (ps : List Placed). map (λ (j : JobBound). j.bound) (job_bounds set.plant ps)) h.placed in
+    let limit_is : c.limit ≡ limit_of (job_bounds set.plant (placed_by set layout)) = limit ∙ ap (λ (ps : List Placed). limit_of (job_bounds set.plant ps)) h.placed in
+    λ i. record {
+      image = image_is i;
+      layout = at i;
+      parts = parts_are i;
+      names = names i;
+      intervals = intervals_are i;
+      jobs = jobs_are i;
+      limit = limit_is i;
+    }

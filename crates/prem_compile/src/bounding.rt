@@ -11,7 +11,7 @@ use crate::late::{blocks_of, bounds_of_placed, places_of};
 use prem_place::placing::{CodedTask, PlacedTask, place_all};
 use prem_place::verdict::TaskBounds;
 use prem_plant::{Layout, PartSize};
-use prem_stages::{Coded, checked_programs, coded_programs};
+use prem_stages::checked_programs;
 use prem_tasks::{Stop, TaskSet};
 use std::alloc::Global;
 
@@ -75,11 +75,6 @@ pub fn bounds_of_set(alloc: Global, set: &TaskSet) -> Result<Vec<TaskBounds>, St
     ensures { EndsBounds (set_of set.now) result }
 {
     let programs = checked_programs(alloc, set)?;
-    let Coded {
-        resolved,
-        turns,
-        codes,
-    } = coded_programs(alloc, set, &programs)?;
-    let tasks = coded_tasks(alloc, set, &resolved, &turns, codes)?;
+    let tasks = coded_tasks(alloc, set, &programs)?;
     bounds_behind_code(alloc, set, tasks)
 }

@@ -4,22 +4,25 @@ ghost use Rattle.std.specs.List.{AllByRecursion};
 ghost use Rattle.prem_list.specs.Sequence.{items_of};
 ghost use Rattle.prem_layout.specs.Plans.{plans_of};
 ghost use Rattle.prem_layout.specs.Parts.{part_count};
-ghost use Rattle.prem_place.specs.Placing.CodedOf.{IsCodedTask, coded_in};
+ghost use Rattle.prem_prefetch.specs.Sizes.CodedOf.{IsCodedTask, coded_in};
+ghost use Rattle.prem_prefetch.specs.Sizes.Sizes.{MayHavePlaces};
 ghost use Rattle.prem_color.specs.Standing.{PlanStands, TasksStand};
 ghost use Rattle.prem_color.specs.Wants.{shape_of, task_wants, wants_of};
 ghost use Rattle.prem_color.specs.WantOf.{want_of};
 ghost use Rattle.prem_tasks.specs.SetOf.{set_of};
+ghost use Rattle.prem_tasks.specs.Compiled.{parts_in};
 ghost use Rattle.prem_compile.specs.Joined.{HasCode};
 ghost use Rattle.prem_compile.specs.PartsOf.{AreParts, EndsParts, IsPartsAnswer};
+ghost use Rattle.prem_compile.specs.Telling.Named.{AreNamed};
 
 use crate::coding::{coded_tasks, parts_of_tasks};
-use crate::telling::names_of_coded;
+use crate::telling::{NamedParts, named_parts};
 use prem_color::{push_wants, shape_of};
 use prem_foot::Want;
 use prem_list::Sequence;
 use prem_place::placing::CodedTask;
 use prem_plant::{PartSize, TaskId};
-use prem_stages::{Coded, checked_programs, coded_programs};
+use prem_stages::checked_programs;
 use prem_syntax::Name;
 use prem_tasks::{CompileFail, Stop, TaskSet};
 use std::alloc::{AllocError, Global};
@@ -40,7 +43,7 @@ fn part_count(task: &CodedTask) -> usize
     ensures count { result ≡ part_count (coded_in task.now).program }
     ensures few { result ≤ 1024 }
 {
-    let program = task.program;
+    let program = &task.program;
     2 + program.routines.items().len() + task.plans.items().len() + program.globals.len()
 }
 
@@ -58,7 +61,7 @@ fn push_task(
     requires there { AllByRecursion (PlanStands sizes.now (shape_of (coded_in task.now).program) first) (plans_of (coded_in task.now).program) }
     ensures { OnOk result (map want_of (items_of wants.new) ≡ map want_of (items_of wants.old) ++ task_wants sizes.now n first (coded_in task.now).program) }
 {
-    let shape = shape_of(alloc, task.program)?;
+    let shape = shape_of(alloc, &task.program)?;
     push_wants(alloc, wants, sizes, &shape, n, first, task.plans.items())
 }
 
@@ -82,15 +85,24 @@ fn wants_of(
     Ok(wants)
 }
 
-/// A copy of the parts. It fails only for want of memory.
-fn listed(alloc: Global, parts: &[PartSize]) -> Result<Sequence<PartSize>, AllocError>
-    ensures { IfOk result (λ list. items_of list ≡ parts.now) }
+/// The parts of tasks with their code, by their sizes and names.
+fn parts_with(
+    alloc: Global,
+    set: &TaskSet,
+    tasks: &[CodedTask],
+    parts: NamedParts,
+) -> Result<Parts, AllocError>
+    requires code { HasCode (set_of set.now) tasks.now }
+    requires named { AreNamed (set_of set.now) parts }
+    requires may { MayHavePlaces (set_of set.now).plant.line (parts_in (set_of set.now)) }
+    ensures { IfOk result (AreParts (set_of set.now)) }
 {
-    let mut list = Sequence::with_room(alloc, parts.len())?;
-    for part in parts {
-        list.push(*part)?;
-    }
-    Ok(list)
+    let wants = wants_of(alloc, &parts.sizes, tasks)?;
+    Ok(Parts {
+        sizes: Sequence::from_vec(parts.sizes),
+        names: parts.names,
+        wants,
+    })
 }
 
 /// The parts of tasks with their code.
@@ -98,16 +110,9 @@ fn parts_behind(alloc: Global, set: &TaskSet, tasks: &[CodedTask]) -> Result<Par
     requires { HasCode (set_of set.now) tasks.now }
     ensures { IfOk result (AreParts (set_of set.now)) }
 {
-    let devices = set.devices();
-    let _stated = set.tasks();
     let sizes = parts_of_tasks(alloc, set, tasks)?;
-    let names = names_of_coded(alloc, devices, tasks, &sizes)?;
-    let wants = wants_of(alloc, &sizes, tasks)?;
-    Ok(Parts {
-        sizes: listed(alloc, &sizes)?,
-        names,
-        wants,
-    })
+    let parts = named_parts(alloc, set, tasks, sizes)?;
+    parts_with(alloc, set, tasks, parts)
 }
 
 /// The groups of rules up to code generation, then the parts.
@@ -115,12 +120,7 @@ fn stages(alloc: Global, set: &TaskSet) -> Result<Parts, Stop>
     ensures { EndsParts (set_of set.now) result }
 {
     let programs = checked_programs(alloc, set)?;
-    let Coded {
-        resolved,
-        turns,
-        codes,
-    } = coded_programs(alloc, set, &programs)?;
-    let tasks = coded_tasks(alloc, set, &resolved, &turns, codes)?;
+    let tasks = coded_tasks(alloc, set, &programs)?;
     let parts = parts_behind(alloc, set, &tasks)?;
     Ok(parts)
 }

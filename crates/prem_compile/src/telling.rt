@@ -7,7 +7,7 @@ mod told;
 
 pub use intervals::longest_of_tasks;
 pub use laws::parts_are_there;
-pub use names::{NamedTask, names_of_coded, names_of_parts};
+pub use names::{NamedParts, named_parts};
 pub use prem_bounds::facts::IntervalFact;
 pub use prem_list::Sequence;
 pub use told::{Told, limit_of_set, told_bounds};

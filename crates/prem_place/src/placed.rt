@@ -14,9 +14,10 @@ pub struct PlacedTask<'a, 'p> {
     pub period: u32,
     /// How many jobs are released.
     pub jobs: u32,
-    pub program: &'a Resolved<'p>,
+    /// Its program with names resolved.
+    pub program: Resolved<'p>,
     /// The turns of its counting loops, in the order of the text.
-    pub turns: &'a [u32],
+    pub turns: Vec<u32>,
     pub places: TaskPlaces,
     pub plans: Sequence<IntervalPlan>,
     pub table: CodeTable,

@@ -5,6 +5,7 @@ ghost use Rattle.prem_analysis.specs.Analysed.{analysed_text};
 ghost use Rattle.prem_split.specs.PlanOf.{plan_of};
 ghost use Rattle.prem_split.specs.Texts.{HasFrames, plans_of};
 
+use crate::facts::facts_of;
 use crate::plan::IntervalPlan;
 use crate::plans::intervals_of;
 use prem_analysis::Analysed;
@@ -19,5 +20,6 @@ pub fn intervals(alloc: Global, a: &Analysed) -> Result<Sequence<IntervalPlan>, 
     ensures { IfOk result (λ plans. map plan_of (items_of plans) ≡ plans_of (analysed_text a.now)) }
 {
     let r = resolve(alloc, a.checked().program())?;
-    intervals_of(alloc, &r)
+    let facts = facts_of(alloc, &r)?;
+    intervals_of(alloc, &r, &facts)
 }

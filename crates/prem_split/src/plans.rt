@@ -5,12 +5,12 @@ ghost use Rattle.prem_syntax.specs.Name.{name_bytes};
 ghost use Rattle.prem_syntax.specs.SyntaxOf.{global_of, region_of, mark_of};
 ghost use Rattle.prem_layout.specs.Plans.{global_number, region_of as plan_region};
 ghost use Rattle.prem_split.specs.PlanOf.{plan_of};
-ghost use Rattle.prem_split.specs.PlansWith.{MayHavePlans, plan_with, plan_if, plans_in};
+ghost use Rattle.prem_split.specs.PlansWith.{AreFacts, MayHavePlans, plan_with, plan_if, plans_in};
 
+use crate::facts::FunctionFacts;
 use crate::plan::IntervalPlan;
-use crate::tables::{depths, members, value_at};
-use crate::walk::frames;
-use prem_analysis::marks::{callee_table, reach_set};
+use crate::tables::{members, value_at};
+use prem_analysis::marks::reach_set;
 use prem_list::Sequence;
 use prem_plant::FnId;
 use prem_syntax::{Global as GlobalTree, Mark, Name, Region};
@@ -102,21 +102,30 @@ fn push_plan(
     }
 }
 
-/// The plans of the marked functions of a program whose names are resolved, in the order of the text.
-pub fn intervals_of(alloc: Global, r: &Resolved) -> Result<Sequence<IntervalPlan>, AllocError>
-    requires { MayHavePlans r.now }
+/// The plans of the marked functions of a program whose names are resolved, by what is known of its functions, in the order of the text.
+pub fn intervals_of(
+    alloc: Global,
+    r: &Resolved,
+    facts: &FunctionFacts,
+) -> Result<Sequence<IntervalPlan>, AllocError>
+    requires may { MayHavePlans r.now }
+    requires facts { AreFacts r.now facts.now }
     ensures { IfOk result (λ plans. map plan_of (items_of plans) ≡ plans_in r.now) }
 {
     let fs = r.routines.items();
-    let frames = frames(alloc, fs)?;
-    let table = callee_table(alloc, fs)?;
-    let depths = depths(alloc, &frames, &table)?;
-    let base = value_at(&frames, r.job);
+    let base = value_at(&facts.frames, r.job);
     let mut plans = Sequence::new(alloc);
     for n in 0..fs.len() {
         let text = fs[n].text;
         push_plan(
-            alloc, &mut plans, n as u16, &text.mark, &depths, &table, base, &r.globals,
+            alloc,
+            &mut plans,
+            n as u16,
+            &text.mark,
+            &facts.depths,
+            &facts.calls,
+            base,
+            &r.globals,
         )?;
     }
     Ok(plans)

@@ -1,13 +1,13 @@
 -- The groups of rules up to code, one after another.
+use Rattle.std.specs.List.{AllByRecursion}
 use Rattle.std.specs.Option.{option_map}
-use Rattle.std.proofs.Common.{◌≡◌, ℕ, suc, ◌+◌, ◌≤◌, List, [], ◌∷◌, Option, None, Some, Result, Ok, Err, length, map, refl, ap, sym, ◌∙◌, subst, arith, Vec, Global}
+use Rattle.std.proofs.Common.{◌≡◌, ℕ, suc, ◌+◌, ◌≤◌, List, [], ◌∷◌, Option, None, Some, Result, Ok, Err, length, map, refl, ap, sym, ◌∙◌, subst, arith}
 use Rattle.prem_plant.specs.declared.plant.Target.{Target}
 use Rattle.prem_syntax.specs.Syntax.{ProgramText}
 use Rattle.prem_text.specs.declared.lexing.token.fail.FrontFail.{FrontFail}
 use Rattle.prem_text.specs.Texts.{reads}
 use Rattle.prem_tree.specs.declared.checked.Checked.{Checked}
-use Rattle.prem_ranges.specs.RangesKept.{turn_bounds, bounded}
-use Rattle.prem_asm.specs.Pieces.{Pieces}
+use Rattle.prem_ranges.specs.RangesKept.{bounded}
 use Rattle.prem_layout.specs.Placed.{Coded as CodedText}
 use Rattle.prem_layout.specs.Rules.{LateRule, Refusal, or_else, refused_by, first_among, over_tasks, code_rules}
 use Rattle.prem_layout.specs.Broken.{broken_at_places}
@@ -19,10 +19,9 @@ use Rattle.prem_tasks.specs.Compiled.{coded_in, places_in}
 use Rattle.prem_tasks.specs.At.{code_broken, broken_early}
 use Rattle.prem_tasks.specs.Stops.{Stop, Stops}
 use Rattle.prem_stages.specs.Stages.{checked_text, uncoded}
-use Rattle.prem_stages.specs.Code.{code_in, program_code}
-use Rattle.prem_stages.specs.Resolving.{meant_by, text_by}
-use Rattle.prem_stages.specs.Coded.{AreFormed, IsCoded}
-use Rattle.prem_stages.specs.declared.front.Coded.{Coded}
+use Rattle.prem_stages.specs.Programs.{IsCodedProgram, coded_text}
+use Rattle.prem_stages.specs.Coded.{AreCoded, AreFormed}
+use Rattle.prem_stages.specs.declared.code.CodedProgram.{CodedProgram}
 use Rattle.prem_stages.proofs.Passing.{same_stop, first_stops, none_passes}
 
 -- ---- texts that are read
@@ -82,12 +81,6 @@ late_among target n (t ∷ ts) (p ∷ ps) count =
 late_none : (found : Option (Refusal LateRule)) → late_refusal found ≡ None → found ≡ None
 late_none None e = refl
 late_none (Some r) e = absurd cc
-
-codes_listed : (target : Target) (ts : List TaskText) (ps : List ProgramText) → length ps ≡ length ts → map (program_code target) ps ≡ map (λ (c : CodedText). c.code) (coded_of target ts ps)
-codes_listed target [] [] count = refl
-codes_listed target [] (p ∷ ps) count = absurd (omega (arith, count))
-codes_listed target (t ∷ ts) [] count = refl
-codes_listed target (t ∷ ts) (p ∷ ps) count = ap (λ (codes : List (List Pieces)). program_code target p ∷ codes) (codes_listed target ts ps (omega (arith, count)))
 
 -- ---- where a set is refused
 
@@ -171,10 +164,9 @@ broken_parts set =
 
 -- ---- where it isn't
 
-pub set_is_coded : (set : TaskSet) (c : Coded) (ps : List ProgramText) → KeptWell set → ps ≡ programs_of set.tasks → over_tasks uncoded ps ≡ None → map meant_by c.resolved.items ≡ map text_by ps →
-    map (λ (t : Vec ℕ Global). t.items) c.turns.items ≡ map turn_bounds ps → map code_in c.codes.items ≡ map (program_code set.plant.target) ps → IsCoded set c
-set_is_coded set c ps well are coded resolved turns codes =
-    let count = as_many_programs set.tasks well.texts in
+pub set_is_coded : (set : TaskSet) (programs : List CodedProgram) (ps : List ProgramText) → KeptWell set → ps ≡ programs_of set.tasks → over_tasks uncoded ps ≡ None →
+    map coded_text programs ≡ ps → AllByRecursion (IsCodedProgram set.plant.target) programs → AreCoded set programs
+set_is_coded set programs ps well are coded texts each =
     let none : four_in set ≡ None = four_is set well.texts ∙ ap (λ (qs : List ProgramText). over_tasks uncoded qs) (sym are) ∙ coded in
     let early : broken_early set ≡ None = behind_ranges set well ∙ none in
     record {
@@ -184,8 +176,7 @@ set_is_coded set c ps well are coded resolved turns codes =
       code_is_there = late_none (code_broken set) none;
       early = early;
       broken_is = broken_parts set ∙ none_passes (broken_early set) (late_refusal (placed_in_set set)) early;
-      count = count;
-      resolved_are = resolved ∙ ap (map text_by) are;
-      turns_are = turns ∙ ap (map turn_bounds) are;
-      codes_are = codes ∙ ap (λ (qs : List ProgramText). map (program_code set.plant.target) qs) are ∙ codes_listed set.plant.target set.tasks (programs_of set.tasks) count;
+      count = as_many_programs set.tasks well.texts;
+      programs_are = texts ∙ are;
+      each = each;
     }

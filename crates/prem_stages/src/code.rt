@@ -1,26 +1,32 @@
 // The fourth group of rules: the programs of all tasks get their code.
 ghost use Rattle.std.specs.Prelude.{◌≡◌, ◌≤◌, ◌<◌, Some, IfOk, length, map};
-ghost use Rattle.prem_tree.specs.Resolve.ResolvedOf.{IsResolved};
-ghost use Rattle.prem_ranges.specs.RangesKept.{bounded, turn_bounds};
+ghost use Rattle.std.specs.List.{AllByRecursion};
+ghost use Rattle.prem_ranges.specs.RangesKept.{bounded};
 ghost use Rattle.prem_layout.specs.Template.Limits.{excess};
 ghost use Rattle.prem_layout.specs.Rules.{refused_by, over_tasks};
 ghost use Rattle.prem_gen.specs.Term.Excess.{Exceeds};
 ghost use Rattle.prem_tasks.specs.Told.{told_of};
 ghost use Rattle.prem_tasks.specs.Stops.{Ends};
 ghost use Rattle.prem_stages.specs.Stages.{checked_text, uncoded};
-ghost use Rattle.prem_stages.specs.Code.{code_in, program_code};
-ghost use Rattle.prem_stages.specs.Resolving.{meant_by, text_by};
+ghost use Rattle.prem_stages.specs.Programs.{IsBounded, IsCodedProgram, bounded_text, coded_text};
 
+use crate::analyse::BoundedProgram;
 use crate::names::{item_names, name_at};
 use prem_gen::{GenFail, Piece, Sequence, gen_all};
 use prem_plant::Target;
 use prem_tasks::{Rule, Stop, refused};
 use prem_tree::Checked;
-use prem_tree::resolve::Resolved;
 use std::alloc::{AllocError, Global};
 
 /// The code of the functions of a program, in the order of the text.
 pub type Codes = Sequence<Sequence<Piece>>;
+
+/// A program with its code.
+#[derive(Drop)]
+pub struct CodedProgram<'p> {
+    pub program: BoundedProgram<'p>,
+    pub code: Codes,
+}
 
 /// The rule that a program breaks which has no code, with a name in place of a number. Want of memory is no rule.
 fn code_rule(alloc: Global, program: &Checked, fail: GenFail) -> Result<Rule, AllocError>
@@ -38,47 +44,44 @@ fn code_rule(alloc: Global, program: &Checked, fail: GenFail) -> Result<Rule, Al
     }
 }
 
-/// The code of a task's program for a target, or why it has none.
-fn code_one(
+/// A task's program with its code for a target, or why it has none.
+fn code_one<'p>(
     alloc: Global,
     task: usize,
-    program: &Checked,
-    resolved: &Resolved<'_>,
-    turns: &[u32],
+    program: BoundedProgram<'p>,
     target: Target,
-) -> Result<Codes, Stop>
+) -> Result<CodedProgram<'p>, Stop>
     requires task { task < 16 }
-    requires resolved { IsResolved resolved.now (checked_text program.now) }
-    requires turns { turns.now ≡ turn_bounds (checked_text program.now) }
-    ensures ends { Ends result (refused_by (Some task) (uncoded (checked_text program.now))) }
-    ensures code { IfOk result (λ codes. code_in codes ≡ program_code target (checked_text program.now)) }
+    requires program { IsBounded program }
+    ensures ends { Ends result (refused_by (Some task) (uncoded (bounded_text program.entry))) }
+    ensures program { IfOk result (λ c. coded_text c ≡ bounded_text program.entry) }
+    ensures coded { IfOk result (IsCodedProgram target) }
 {
-    match gen_all(alloc, program, resolved, turns, target) {
-        Ok(codes) => Ok(codes),
-        Err(fail) => Err(refused(alloc, task, code_rule(alloc, program, fail)?)),
+    let checked = program.checked;
+    match gen_all(alloc, checked, &program.resolved, &program.turns, target) {
+        Ok(code) => Ok(CodedProgram { program, code }),
+        Err(fail) => Err(refused(alloc, task, code_rule(alloc, checked, fail)?)),
     }
 }
 
-/// The code of all programs for a target, or the first that has none: a frame passes 2032 bytes, or an expression needs a register past
-/// the twelfth. Their names are resolved, and the turn bounds of their counting loops told, each in the order of the programs.
-pub fn code_all(
+/// The programs with their code for a target, or the first that has none: a frame passes 2032 bytes, or an expression needs a register past
+/// the twelfth.
+pub fn code_all<'p>(
     alloc: Global,
-    programs: &[Checked],
-    resolved: &[Resolved<'_>],
-    turns: &[Vec<u32>],
+    programs: Vec<BoundedProgram<'p>>,
     target: Target,
-) -> Result<Vec<Codes>, Stop>
-    requires few { length programs.now ≤ 16 }
-    requires resolved { map meant_by resolved.now ≡ map text_by (map checked_text programs.now) }
-    requires turns { map (λ turns. turns.items) turns.now ≡ map turn_bounds (map checked_text programs.now) }
-    ensures ends { Ends result (over_tasks uncoded (map checked_text programs.now)) }
-    ensures codes { IfOk result (λ all. map code_in all.items ≡ map (program_code target) (map checked_text programs.now)) }
+) -> Result<Vec<CodedProgram<'p>>, Stop>
+    requires few { length programs.items ≤ 16 }
+    requires bounded { AllByRecursion IsBounded programs.items }
+    ensures ends { Ends result (over_tasks uncoded (map bounded_text programs.entry.items)) }
+    ensures programs { IfOk result (λ all. map coded_text all.items ≡ map bounded_text programs.entry.items) }
+    ensures coded { IfOk result (λ all. AllByRecursion (IsCodedProgram target) all.items) }
 {
     let mut all = Vec::new(alloc);
-    for n in 0..programs.len() {
-        let turns = turns[n].as_slice();
-        let codes = code_one(alloc, n, &programs[n], &resolved[n], turns, target)?;
-        all.push(codes)?;
+    let mut n = 0;
+    for program in programs {
+        all.push(code_one(alloc, n, program, target)?)?;
+        n += 1;
     }
     Ok(all)
 }

@@ -3,7 +3,7 @@ use Rattle.std.proofs.Common.{◌≡◌, ℕ, List, Option, None, Result, Ok, Er
 use Rattle.prem_plant.specs.declared.layout.PartSize.{PartSize}
 use Rattle.prem_plant.specs.Places.{Extent, default_places}
 use Rattle.prem_layout.specs.Rules.{LateRule, Refusal, refused_by, memory_rules}
-use Rattle.prem_place.specs.declared.placing.coded.CodedTask.{CodedTask}
+use Rattle.prem_prefetch.specs.declared.sizes.coded.CodedTask.{CodedTask}
 use Rattle.prem_tasks.specs.Broken.{TaskSet, late_refusal, broken}
 use Rattle.prem_tasks.specs.Compiled.{parts_in, places_in}
 use Rattle.prem_tasks.specs.At.{broken_at, broken_early, placed_broken}

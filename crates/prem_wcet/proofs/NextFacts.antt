@@ -86,7 +86,7 @@ module _ (p : Plant) (t : PlacedTask) (whole : StandsWhole p t) where
   code = items_of t.table.code
 
   abbrev turns : ℕ → ℕ
-  turns = slice_index t.turns.now
+  turns = slice_index t.turns.items
 
   -- what stands in memory at a number
   pub record IsThere (n : ℕ) (r : RoutineTree) : Type 0 where
@@ -158,7 +158,7 @@ pieces_there t n codes x pieces lt are is items = ap pieces_of items ∙ sym (li
 pub next_told : (p : Plant) (t : PlacedTask) (faces faces2 : List Face) (facts facts2 : List FactTree) (codes : List (Sequence Piece))
     (stack : Extent) (n at : ℕ) (r : RoutineTree) (ps : Pieces) (o : OutlineTree) (fact : FactTree) →
     n ≡ length facts → slice_get (routines_of t) n ≡ Some r → codes ≡ items_of t.table.code → faces2 ≡ faces → facts2 ≡ facts →
-    stack ≡ stack_by t.places (face_at faces t.program.now.job).frame (length facts == t.program.now.job) →
+    stack ≡ stack_by t.places (face_at faces t.program.job).frame (length facts == t.program.job) →
     at ≡ (place_at t.places (1 + n)).0 → ps ≡ get_or (listed (items_of t.table.code)) n no_pieces → IsOutline p.target r ps o →
     IsFact (memory_scene p t.places codes faces2 stack facts2) at ps o fact → IsNextFact p t faces facts fact
 next_told p t faces faces2 facts facts2 codes stack n at r ps o fact count there code_is faces_are facts_are stack_is at_is ps_is cut told =
@@ -166,7 +166,7 @@ next_told p t faces faces2 facts facts2 codes stack n at r ps o fact count there
     let at_same : at ≡ (place_at t.places (1 + length facts)).0 = at_is ∙ ap (λ k. (place_at t.places (1 + k)).0) count in
     let scene_same : memory_scene p t.places codes faces2 stack facts2
     ≡ memory_scene p t.places (items_of t.table.code) faces
-    (stack_by t.places (face_at faces t.program.now.job).frame (length facts == t.program.now.job)) facts =
+    (stack_by t.places (face_at faces t.program.job).frame (length facts == t.program.job)) facts =
     λ i. memory_scene p t.places (code_is i) (faces_are i) (stack_is i) (facts_are i) in
     record {
       routine = r;
@@ -215,14 +215,14 @@ module _ (p : Plant) (t : PlacedTask) (lengths : List ℕ) (whole : StandsWhole 
       let n : ℕ = length facts in
       let r : RoutineTree = next.routine in
       let one = there p t whole n r lt (there_item (routines_of t) n r next.there) in
-      let f : Routine = routine_of (slice_index t.turns.now) one.loops r in
+      let f : Routine = routine_of (slice_index t.turns.items) one.loops r in
       let v : Scene = task_scene p task_plans task_program t.places n in
       let ps : Pieces = get_or (listed task_code) n no_pieces in
       let at : ℕ = (place_at t.places (1 + n)).0 in
       let e : Scene = memory_scene p t.places task_code (faces_in (routines_of t) lengths)
       (stack_by t.places (face_at (faces_in (routines_of t) lengths) task_program.job).frame (n == task_program.job)) facts in
       let stands : StandsFor e v = stands_at p t lengths whole long n (n == task_program.job) facts refl (less n (length task_code) (length task_program.routines) lt (code_count p t whole)) rows in
-      let function : IsFunction v f next.told.outline = functions_are_cut v (slice_index t.turns.now) one.loops r ps next.told.outline one.code_is next.told.cut in
+      let function : IsFunction v f next.told.outline = functions_are_cut v (slice_index t.turns.items) one.loops r ps next.told.outline one.code_is next.told.cut in
       subst (FactsAlike (fact_in fact ps)) (sym (fact_there n f one.routine)) (fact_alike e v stands f at ps next.told.outline one.code_is function fact next.told.told)
     where
       less : (n c k : ℕ) → n < c → c ≡ k → n ≤ k

@@ -57,7 +57,7 @@ module _ (p : Plant) (t : PlacedTask) (lengths : List ℕ) (whole : StandsWhole 
   pub tell : TellFaces p plans program.routines faces
   tell =
       let plans_are : plans_of t ≡ program_plans program = ap (λ (q : Placed). q.plans) whole.task.same in
-      faces_tell p (slice_index t.turns.now) (routines_of t) lengths (plans_of t) long (ap length plans_are ∙ plans_counted program 0 program.routines)
+      faces_tell p (slice_index t.turns.items) (routines_of t) lengths (plans_of t) long (ap length plans_are ∙ plans_counted program 0 program.routines)
 
   -- with such facts, of which these are known
   pub stands_with : (facts : List FactTree) (stack : Extent) (known : List Fact) → ((f : ℕ) → FactsAlike (slice_index_or (facts_in facts code) f no_fact) (slice_index_or known f no_fact)) →

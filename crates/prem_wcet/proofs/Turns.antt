@@ -136,7 +136,7 @@ interval_there p t k f opens plans plan routines routine i is lent all eo lt at 
     let inside : k < length (plans_of t) = omega (arith, lt, ap length lent, length-map (items_of t.plans) plan_of) in
     let function : plan.function < length (routines_of t) = plan_at p t k plans plan is lent lt at in
     let there : routine ≡ get_or (routines_of t) plan.function routine = here ∙ ap (λ rs. get_or rs f routine) all ∙ ap (λ n. get_or (routines_of t) n routine) ef in
-    let name : name_bytes routine.text.now.name ≡ name_at x.task.program.routines plan.function = name_from (slice_index t.turns.now) 0 (routines_of t) plan.function routine function there in
+    let name : name_bytes routine.text.now.name ≡ name_at x.task.program.routines plan.function = name_from (slice_index t.turns.items) 0 (routines_of t) plan.function routine function there in
     let opening : get_or opens k 0 ≡ opens_of p t.places (plan_of plan) = ap (λ ns. get_or ns k 0) eo ∙ map_at (opens_of p t.places) (plans_of t) k (plan_of plan) 0 inside same in
     let text : interval_of i ≡ interval_text p x (plan_of plan) = λ j. record { name = (en ∙ name) j; stated = es j; opens = (ei ∙ opening) j } in
     map_at (interval_text p x) (plans_of t) k (plan_of plan) (interval_of i) inside same ∙ sym text

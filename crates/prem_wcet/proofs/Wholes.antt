@@ -183,9 +183,9 @@ whole_task p t plant is stands w four =
     record {
       task = is;
       code = w.code;
-      functions = w.functions ∙ routines_long (slice_index t.turns.now) 0 (items_of t.program.now.routines);
+      functions = w.functions ∙ routines_long (slice_index t.turns.items) 0 (items_of t.program.routines);
       marked = w.marked;
-      frames = have_frames (slice_index t.turns.now) 0 0 (items_of t.program.now.routines) (not_exceeding (coded_of t).program four);
+      frames = have_frames (slice_index t.turns.items) 0 0 (items_of t.program.routines) (not_exceeding (coded_of t).program four);
       few = omega (arith, few, count);
       ends = λ n lt. (let e = w.ends n (omega (arith, lt, long)) in omega (arith, e, small));
       start = omega (arith, start, small);

@@ -127,7 +127,7 @@ pub record IsNextFact (p : Plant) (t : PlacedTask) (faces : List Face) (facts : 
   pub routine : RoutineTree
   pub there : slice_get (routines_of t) (length facts) ≡ Some routine
   pub told :
-      IsFactOf (memory_scene p t.places (items_of t.table.code) faces (stack_by t.places (face_at faces t.program.now.job).frame (length facts == t.program.now.job)) facts) routine
+      IsFactOf (memory_scene p t.places (items_of t.table.code) faces (stack_by t.places (face_at faces t.program.job).frame (length facts == t.program.job)) facts) routine
       (place_at t.places (1 + length facts)).0 (get_or (listed (items_of t.table.code)) (length facts) no_pieces) fact
 
 -- and what it costs where all lines are found

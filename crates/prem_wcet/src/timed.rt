@@ -8,6 +8,7 @@ ghost use Rattle.prem_place.specs.Placed.PlacedOf.{IsPlacedTask, placed_of, plan
 ghost use Rattle.prem_tasks.specs.SetOf.{set_of};
 ghost use Rattle.prem_tasks.specs.Compiled.{parts_in};
 ghost use Rattle.prem_compile.specs.Joined.{HasCode, HasPlaces};
+ghost use Rattle.prem_compile.specs.Telling.Named.{AreNamed};
 ghost use Rattle.prem_wcet.specs.Times.{closed_by, interval_text, times_of};
 ghost use Rattle.prem_wcet.specs.Lengths.{IsOpening, IsTimedTask, lengths_within, opens_in, stated_in};
 ghost use Rattle.prem_wcet.specs.TimedOf.{AreSmall, EndsTimed, EndsTimedAt, IsTimedAnswer, interval_of, times_in};
@@ -16,12 +17,13 @@ use crate::opens::opens;
 use crate::task::times_in;
 use prem_compile::coding::{CodedTask, coded_tasks, parts_of_tasks};
 use prem_compile::late::places_of;
+use prem_compile::telling::{NamedParts, named_parts};
 use prem_compile::{CompileFail, Compiled, TaskSet, compile_placed};
 use prem_list::Sequence;
 use prem_place::placed::PlacedTask;
 use prem_place::placing::place_all;
 use prem_plant::{Layout, PartSize, Plant};
-use prem_stages::{Coded, checked_programs, coded_programs};
+use prem_stages::checked_programs;
 use prem_syntax::{Name, copy_name};
 use prem_tasks::Stop;
 use std::alloc::{AllocError, Global};
@@ -234,11 +236,12 @@ fn timed_placed(
     alloc: Global,
     set: &TaskSet,
     tops: &[u32],
-    parts: Vec<PartSize>,
+    parts: NamedParts,
     layout: Layout,
     tasks: &[PlacedTask],
 ) -> Result<Timed, Stop>
-    requires { HasPlaces (set_of set.now) parts.items layout tasks.now }
+    requires named { AreNamed (set_of set.now) parts }
+    requires placed { HasPlaces (set_of set.now) parts.sizes.items layout tasks.now }
     ensures { EndsTimedAt (set_of set.now) layout tops.now result }
 {
     let plant = set.plant();
@@ -263,6 +266,7 @@ fn behind_layout(
     ensures { EndsTimedAt (set_of set.now) layout tops.now result }
 {
     let plant = set.plant();
+    let parts = named_parts(alloc, set, &tasks, parts)?;
     let placed = place_all(alloc, tasks, &layout, plant)?;
     timed_placed(alloc, set, tops, parts, layout, &placed)
 }
@@ -288,12 +292,7 @@ fn stages(alloc: Global, set: &TaskSet, tops: &[u32]) -> Result<Timed, Stop>
     ensures { EndsTimed (set_of set.now) tops.now result }
 {
     let programs = checked_programs(alloc, set)?;
-    let Coded {
-        resolved,
-        turns,
-        codes,
-    } = coded_programs(alloc, set, &programs)?;
-    let tasks = coded_tasks(alloc, set, &resolved, &turns, codes)?;
+    let tasks = coded_tasks(alloc, set, &programs)?;
     behind_code(alloc, set, tops, tasks)
 }
 

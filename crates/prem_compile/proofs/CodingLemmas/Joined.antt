@@ -1,12 +1,11 @@
 -- What a coded set gives to the stages behind it.
 use Rattle.std.specs.Prelude.{slice_index}
 use Rattle.std.specs.Option.{option_map}
-use Rattle.std.proofs.Common.{◌≡◌, ℕ, ◌+◌, List, [], ◌∷◌, Option, None, Some, Result, Ok, Err, refl, sym, subst, Vec, Global, is_none, IsTrue}
+use Rattle.std.proofs.Common.{◌≡◌, ℕ, ◌+◌, List, [], ◌∷◌, Option, None, Some, Result, Ok, Err, refl, is_none, IsTrue}
 use Rattle.prem_plant.specs.declared.plant.Target.{Target}
 use Rattle.prem_syntax.specs.Syntax.{ProgramText}
 use Rattle.prem_syntax.specs.Rules.{Breach}
 use Rattle.prem_syntax.specs.ProgramRules as meaning
-use Rattle.prem_tree.specs.declared.resolve.resolved.Resolved.{Resolved as ResolvedTree}
 use Rattle.prem_check.specs.Told.{told_of as told_of_breach}
 use Rattle.prem_text.specs.declared.lexing.token.fail.FrontFail.{FrontFail}
 use Rattle.prem_text.specs.Texts.{reads}
@@ -19,12 +18,14 @@ use Rattle.prem_tasks.specs.Told.{of_program}
 use Rattle.prem_tasks.specs.Broken.{TaskText, TaskSet, unread, text_rules, program_before, programs_of, program_rules, range_rules, coded_of, late_refusal}
 use Rattle.prem_tasks.specs.At.{code_broken, broken_early}
 use Rattle.prem_tasks.specs.Compiled.{coded_in}
-use Rattle.prem_stages.specs.declared.front.Coded.{Coded}
-use Rattle.prem_stages.specs.Coded.{IsCoded}
+use Rattle.prem_prefetch.specs.declared.sizes.coded.CodedTask.{CodedTask}
+use Rattle.prem_stages.specs.declared.code.CodedProgram.{CodedProgram}
+use Rattle.prem_stages.specs.Coded.{AreCoded}
 use Rattle.prem_stages.proofs.Groups.{late_four}
 use Rattle.prem_sets_sound.proofs.AcceptedLemmas.Follow.{not_late}
 use Rattle.prem_sets_sound.proofs.EachLemmas.Filled.{not_exceeding}
-use Rattle.prem_compile.specs.Coding.Tasks.{AreForSet}
+use Rattle.prem_compile.specs.Coding.Tasks.{AreTasksOf}
+use Rattle.prem_compile.specs.Joined.{HasCode}
 
 -- ---- no rule is broken
 
@@ -45,12 +46,12 @@ is_formed p e = by (meaning.first_breach p) e
 
 -- ---- the code of a set's programs
 
-abbrev AreCoded : Target → List TaskText → List ProgramText → Type 0
-AreCoded target ts ps = AreCodesOf ps (coded_of target ts ps)
+abbrev AreCodes : Target → List TaskText → List ProgramText → Type 0
+AreCodes target ts ps = AreCodesOf ps (coded_of target ts ps)
 
 codes_from : (target : Target) (n : ℕ) (ts : List TaskText) → first_among text_rules n ts ≡ None →
     first_among program_rules n (programs_of ts) ≡ None → first_among late_four n (coded_of target ts (programs_of ts)) ≡ None →
-    AreCoded target ts (programs_of ts)
+    AreCodes target ts (programs_of ts)
 codes_from target n [] one two four = tt
 codes_from target n (t ∷ ts) one two four = by (reads t.text) refl one two four (codes_from target (n + 1) ts)
   where
@@ -59,8 +60,8 @@ codes_from target n (t ∷ ts) one two four = by (reads t.text) refl one two fou
         first_among program_rules n (program_before read (programs_of ts)) ≡ None →
         first_among late_four n (coded_of target (t ∷ ts) (program_before read (programs_of ts))) ≡ None →
         (first_among text_rules (n + 1) ts ≡ None → first_among program_rules (n + 1) (programs_of ts) ≡ None →
-        first_among late_four (n + 1) (coded_of target ts (programs_of ts)) ≡ None → AreCoded target ts (programs_of ts)) →
-        AreCoded target (t ∷ ts) (program_before read (programs_of ts))
+        first_among late_four (n + 1) (coded_of target ts (programs_of ts)) ≡ None → AreCodes target ts (programs_of ts)) →
+        AreCodes target (t ∷ ts) (program_before read (programs_of ts))
     by (Err fail) is one two four more = absurd cc
     by (Ok p) is one two four more =
         let of_two = neither (refused_by (Some n) (program_rules p)) (first_among program_rules (n + 1) (programs_of ts)) two in
@@ -87,23 +88,12 @@ codes_when_early set e =
     let three = neither (over_tasks range_rules (programs_of set.tasks)) (late_refusal (code_broken set)) two.1 in
     codes_from set.plant.target 0 set.tasks one.0 two.0 (not_late (code_broken set) three.1)
 
-pub codes_of_set : (set : TaskSet) (c : Coded) → IsCoded set c → AreCodesOf (programs_of set.tasks) (coded_in set)
-codes_of_set set c is = codes_from set.plant.target 0 set.tasks is.texts_are_read is.programs_are_formed is.code_is_there
-
--- ---- all that is known of a set's tasks
-
-are_for_set : (set : TaskSet) (c : Coded) → IsCoded set c → AreForSet set c.resolved.items c.turns.items c.codes.items
-are_for_set set c is = record {
-  programs_are = is.resolved_are;
-  turns_are = is.turns_are;
-  codes_are = is.codes_are;
-  count = is.count;
-  coded = codes_of_set set c is;
+-- all that is known of a set's tasks
+pub has_code : (set : TaskSet) (programs : List CodedProgram) (tasks : List CodedTask) → AreCoded set programs → AreTasksOf set tasks → HasCode set tasks
+has_code set programs tasks is are = record {
+  tasks_are = are;
+  codes_are = codes_from set.plant.target 0 set.tasks is.texts_are_read is.programs_are_formed is.code_is_there;
+  as_many = is.count;
+  early = is.early;
+  broken_is = is.broken_is;
 }
-
--- lists that are lent are the same
-pub lent_for_set : (set : TaskSet) (c : Coded) (programs : List ResolvedTree) (turns : List (Vec ℕ Global)) → programs ≡ c.resolved.items →
-    turns ≡ c.turns.items → IsCoded set c → AreForSet set programs turns c.codes.items
-lent_for_set set c programs turns ep et is =
-    subst (λ (us : List (Vec ℕ Global)). AreForSet set programs us c.codes.items) (sym et)
-    (subst (λ (rs : List ResolvedTree). AreForSet set rs c.turns.items c.codes.items) (sym ep) (are_for_set set c is))

@@ -14,8 +14,8 @@ use Rattle.prem_place.proofs.VerdictLemmas.Names.{name_from}
 use Rattle.prem_place.proofs.BuildImageLemmas.Whole.{routines_long}
 use Rattle.prem_tasks.specs.Broken.{global_name}
 use Rattle.prem_tasks.specs.Compiled.{named_in, names_in, kind_name, part_name}
-use Rattle.prem_compile.specs.declared.telling.names.NamedTask.{NamedTask}
-use Rattle.prem_compile.specs.Telling.Named.{named_in as named_task}
+use Rattle.prem_prefetch.specs.declared.sizes.coded.CodedTask.{CodedTask}
+use Rattle.prem_prefetch.specs.Sizes.CodedOf.{coded_in as coded_task}
 use Rattle.prem_compile.specs.Telling.There.{IsIn, IsAmong, KindIsThere, IsThere}
 
 pub all_at : {A B : Type 0} (P : B → Type 0) (f : A → B) (xs : List A) (i : ℕ) (x : A) → AllByRecursion P (map f xs) → i < length xs → P (f (get_or xs i x))
@@ -25,28 +25,28 @@ all_at P f (y ∷ ys) (suc i) x h lt = all_at P f ys i x h.1 (omega arith)
 
 -- ---- tasks
 
-pub among_within : (tasks : List NamedTask) (n : ℕ) (kind : PartKind) → IsAmong (map named_task tasks) n kind → n < length tasks
+pub among_within : (tasks : List CodedTask) (n : ℕ) (kind : PartKind) → IsAmong (map coded_task tasks) n kind → n < length tasks
 among_within [] n kind h = absurd h
 among_within (t ∷ ts) zero kind h = omega arith
 among_within (t ∷ ts) (suc n) kind h = let lt = among_within ts n kind h in omega (arith, lt)
 
-among_at : (tasks : List NamedTask) (n : ℕ) (kind : PartKind) (d : NamedTask) → IsAmong (map named_task tasks) n kind → IsIn (named_task (get_or tasks n d)) kind
+among_at : (tasks : List CodedTask) (n : ℕ) (kind : PartKind) (d : CodedTask) → IsAmong (map coded_task tasks) n kind → IsIn (coded_task (get_or tasks n d)) kind
 among_at [] n kind d h = absurd h
 among_at (t ∷ ts) zero kind d h = h
 among_at (t ∷ ts) (suc n) kind d h = among_at ts n kind d h
 
-pub named_at : (tasks : List NamedTask) (n : ℕ) (kind : PartKind) (d : NamedTask) → IsAmong (map named_task tasks) n kind →
-    named_in (get_or tasks n d).name.now (named_task (get_or tasks n d)).program kind ≡ names_in (map named_task tasks) n kind
+pub named_at : (tasks : List CodedTask) (n : ℕ) (kind : PartKind) (d : CodedTask) → IsAmong (map coded_task tasks) n kind →
+    named_in (get_or tasks n d).name.now (coded_task (get_or tasks n d)).program kind ≡ names_in (map coded_task tasks) n kind
 named_at [] n kind d h = absurd h
 named_at (t ∷ ts) zero kind d h = refl
 named_at (t ∷ ts) (suc n) kind d h = named_at ts n kind d h
 
-pub among_of : (tasks : List NamedTask) (n : ℕ) (kind : PartKind) (t : NamedTask) → IsAmong (map named_task tasks) n kind → t ≡ get_or tasks n t → IsIn (named_task t) kind
-among_of tasks n kind t h is = subst (λ (q : NamedTask). IsIn (named_task q) kind) (sym is) (among_at tasks n kind t h)
+pub among_of : (tasks : List CodedTask) (n : ℕ) (kind : PartKind) (t : CodedTask) → IsAmong (map coded_task tasks) n kind → t ≡ get_or tasks n t → IsIn (coded_task t) kind
+among_of tasks n kind t h is = subst (λ (q : CodedTask). IsIn (coded_task q) kind) (sym is) (among_at tasks n kind t h)
 
-pub named_of : (tasks : List NamedTask) (n : ℕ) (kind : PartKind) (t : NamedTask) → IsAmong (map named_task tasks) n kind → t ≡ get_or tasks n t →
-    named_in t.name.now (named_task t).program kind ≡ names_in (map named_task tasks) n kind
-named_of tasks n kind t h is = ap (λ (q : NamedTask). named_in q.name.now (named_task q).program kind) is ∙ named_at tasks n kind t h
+pub named_of : (tasks : List CodedTask) (n : ℕ) (kind : PartKind) (t : CodedTask) → IsAmong (map coded_task tasks) n kind → t ≡ get_or tasks n t →
+    named_in t.name.now (coded_task t).program kind ≡ names_in (map coded_task tasks) n kind
+named_of tasks n kind t h is = ap (λ (q : CodedTask). named_in q.name.now (coded_task q).program kind) is ∙ named_at tasks n kind t h
 
 -- ---- functions
 
@@ -72,11 +72,11 @@ global_at (x ∷ xs) (suc g) d lt = global_at xs g d (omega arith)
 
 -- ---- parts, at numbers and kinds that are found in code
 
-module _ (devices : List Device) (tasks : List NamedTask) (part : PartSize) (n : ℕ) (kind : PartKind) (same : n ≡ part.task) (is : part.kind ≡ kind) where
-  pub there_by : IsThere devices (map named_task tasks) part → KindIsThere devices (map named_task tasks) n kind
+module _ (devices : List Device) (tasks : List CodedTask) (part : PartSize) (n : ℕ) (kind : PartKind) (same : n ≡ part.task) (is : part.kind ≡ kind) where
+  pub there_by : IsThere devices (map coded_task tasks) part → KindIsThere devices (map coded_task tasks) n kind
   there_by there =
-      let found : KindIsThere devices (map named_task tasks) part.task kind = subst (λ (k : PartKind). KindIsThere devices (map named_task tasks) part.task k) is there in
-      subst (λ m. KindIsThere devices (map named_task tasks) m kind) (sym same) found
+      let found : KindIsThere devices (map coded_task tasks) part.task kind = subst (λ (k : PartKind). KindIsThere devices (map coded_task tasks) part.task k) is there in
+      subst (λ m. KindIsThere devices (map coded_task tasks) m kind) (sym same) found
 
-  pub named_by : kind_name devices (map named_task tasks) n kind ≡ part_name devices (map named_task tasks) part
-  named_by = ap (λ m. kind_name devices (map named_task tasks) m kind) same ∙ ap (λ (k : PartKind). kind_name devices (map named_task tasks) part.task k) (sym is)
+  pub named_by : kind_name devices (map coded_task tasks) n kind ≡ part_name devices (map coded_task tasks) part
+  named_by = ap (λ m. kind_name devices (map coded_task tasks) m kind) same ∙ ap (λ (k : PartKind). kind_name devices (map coded_task tasks) part.task k) (sym is)

@@ -1,22 +1,12 @@
--- Tasks by their names and programs.
-use Rattle.std.specs.Prelude.{[], slice_index}
-use Rattle.prem_tree.specs.Resolve.ResolvedOf.{resolved_of}
-use Rattle.prem_layout.specs.Placed.{Coded}
-use Rattle.prem_place.specs.Placed.PlacedOf.{coded_of}
-use Rattle.prem_place.specs.Placing.CodedOf.{coded_in}
-use Rattle.prem_place.specs.declared.placed.PlacedTask.{PlacedTask}
-use Rattle.prem_place.specs.declared.placing.coded.CodedTask.{CodedTask}
-use Rattle.prem_compile.specs.declared.telling.names.NamedTask.{NamedTask}
+-- The names of the parts of a set.
+use Rattle.std.specs.Prelude.{◌≡◌, map}
+use Rattle.prem_list.specs.Sequence.{items_of}
+use Rattle.prem_syntax.specs.Name.{name_bytes}
+use Rattle.prem_tasks.specs.Broken.{TaskSet}
+use Rattle.prem_tasks.specs.Compiled.{coded_in, parts_in, part_name}
+use Rattle.prem_compile.specs.declared.telling.names.NamedParts.{NamedParts}
 
--- nothing else is known of it
-abbrev pub named_in : NamedTask → Coded
-named_in t = record { name = t.name.now; period = 0; jobs = 0; program = resolved_of (slice_index t.turns.now) t.program.now; code = [] }
-
-abbrev pub named_only : Coded → Coded
-named_only c = record { name = c.name; period = 0; jobs = 0; program = c.program; code = [] }
-
-abbrev pub named_placed : PlacedTask → Coded
-named_placed t = named_only (coded_of t)
-
-abbrev pub named_coded : CodedTask → Coded
-named_coded t = named_only (coded_in t)
+-- they are the set's, and are named as they are meant
+pub record AreNamed (set : TaskSet) (parts : NamedParts) : Type 0 where
+  pub sizes : parts.sizes.items ≡ parts_in set
+  pub names : map name_bytes (items_of parts.names) ≡ map (part_name set.devices (coded_in set)) (parts_in set)

@@ -1,77 +1,80 @@
 // The tasks of a set with the plans and the code of their programs.
-ghost use Rattle.std.specs.Prelude.{◌≡◌, ◌≤◌, IfOk, length, map};
+ghost use Rattle.std.specs.Prelude.{◌≡◌, IfOk, MatchResult, length, map};
 ghost use Rattle.std.specs.List.{AllByRecursion};
-ghost use Rattle.prem_place.specs.Placing.CodedOf.{coded_in, IsCodedTask};
+ghost use Rattle.prem_prefetch.specs.Sizes.CodedOf.{coded_in, IsCodedTask};
 ghost use Rattle.prem_tasks.specs.SetOf.{task_of, set_of};
-ghost use Rattle.prem_compile.specs.Coding.Tasks.{AreForSet, AreTasksOf, IsCodable, AreCodable, coded_with, all_coded};
+ghost use Rattle.prem_tasks.specs.At.{broken_early};
+ghost use Rattle.prem_tasks.specs.Stops.{Stops};
+ghost use Rattle.prem_stages.specs.Coded.{AreFormed};
+ghost use Rattle.prem_compile.specs.Coding.Tasks.{IsCodable, all_coded, coded_with};
+ghost use Rattle.prem_compile.specs.Joined.{HasCode};
 
 use prem_place::placing::CodedTask;
-use prem_split::intervals_of;
-use prem_stages::Codes;
-use prem_tasks::{TaskSet, TaskText};
-use prem_tree::resolve::Resolved;
+use prem_prefetch::parts::stack_size;
+use prem_split::{facts_of, intervals_of};
+use prem_stages::{CodedProgram, coded_programs};
+use prem_tasks::{Stop, TaskSet, TaskText};
+use prem_tree::Checked;
 use std::alloc::{AllocError, Global};
 
-/// A task with the plans and the code of its program.
+/// A task with the plans, the stack and the code of its program.
 fn coded_task<'a, 'p>(
     alloc: Global,
     task: &'a TaskText,
-    program: &'a Resolved<'p>,
-    turns: &'a [u32],
-    code: Codes,
+    coded: CodedProgram<'p>,
 ) -> Result<CodedTask<'a, 'p>, AllocError>
-    requires { IsCodable program.now turns.now code }
-    ensures same { IfOk result (λ t. coded_in t ≡ coded_with (task_of task.now) program.now turns.now code) }
+    requires { IsCodable coded }
+    ensures same { IfOk result (λ t. coded_in t ≡ coded_with (task_of task.now) coded.entry) }
     ensures coded { IfOk result IsCodedTask }
 {
-    let plans = intervals_of(alloc, program)?;
+    let program = coded.program.resolved;
+    let facts = facts_of(alloc, &program)?;
+    let plans = intervals_of(alloc, &program, &facts)?;
+    let stack = stack_size(&program, &facts);
     Ok(CodedTask {
         name: &task.name,
         period: task.period,
         jobs: task.jobs,
         program,
-        turns,
+        turns: coded.program.turns,
         plans,
-        code,
+        stack,
+        code: coded.code,
     })
 }
 
-/// Tasks with the plans and the code of their programs, which stand in the same order.
+/// Tasks with the plans, the stacks and the code of their programs, which stand in the same order.
 fn code_tasks<'a, 'p>(
     alloc: Global,
     tasks: &'a [TaskText],
-    programs: &'a [Resolved<'p>],
-    turns: &'a [Vec<u32>],
-    codes: Vec<Codes>,
+    programs: Vec<CodedProgram<'p>>,
 ) -> Result<Vec<CodedTask<'a, 'p>>, AllocError>
-    requires tasks { length tasks.now ≡ length codes.items }
-    requires programs { length programs.now ≡ length codes.items }
-    requires turns { length turns.now ≡ length codes.items }
-    requires each { AreCodable programs.now turns.now codes.items }
-    ensures same { IfOk result (λ all. map coded_in all.items ≡ all_coded (map task_of tasks.now) programs.now turns.now codes.items) }
+    requires tasks { length tasks.now ≡ length programs.items }
+    requires each { AllByRecursion IsCodable programs.items }
+    ensures same { IfOk result (λ all. map coded_in all.items ≡ all_coded (map task_of tasks.now) programs.entry.items) }
     ensures coded { IfOk result (λ all. AllByRecursion IsCodedTask all.items) }
 {
     let mut all = Vec::new(alloc);
     let mut n = 0;
-    for code in codes {
-        let task = coded_task(alloc, &tasks[n], &programs[n], turns[n].as_slice(), code)?;
+    for program in programs {
+        let task = coded_task(alloc, &tasks[n], program)?;
         all.push(task)?;
         n += 1;
     }
     Ok(all)
 }
 
-/// The tasks of a set with the plans and the code of their programs. What is known of them stands in the order of the tasks:
-/// their programs with names resolved, the turns of loops, and code. It fails only for want of memory.
+/// The tasks of a set, of which these are the programs, with what is known of them up to their code, or the first rule on ranges or
+/// code generation that the set breaks.
 pub fn coded_tasks<'a, 'p>(
     alloc: Global,
     set: &'a TaskSet,
-    programs: &'a [Resolved<'p>],
-    turns: &'a [Vec<u32>],
-    codes: Vec<Codes>,
-) -> Result<Vec<CodedTask<'a, 'p>>, AllocError>
-    requires { AreForSet (set_of set.now) programs.now turns.now codes.items }
-    ensures { IfOk result (λ all. AreTasksOf (set_of set.now) all.items) }
+    programs: &'p [Checked],
+) -> Result<Vec<CodedTask<'a, 'p>>, Stop>
+    requires { AreFormed (set_of set.now) programs.now }
+    ensures { MatchResult result (λ tasks. HasCode (set_of set.now) tasks.items) (λ stop. Stops stop (broken_early (set_of set.now))) }
 {
-    code_tasks(alloc, set.tasks(), programs, turns, codes)
+    let coded = coded_programs(alloc, set, programs)?;
+    let tasks = code_tasks(alloc, set.tasks(), coded)?;
+    Ok(tasks)
 }

@@ -6,28 +6,27 @@ ghost use Rattle.prem_plant.specs.Label.{IsName};
 ghost use Rattle.prem_plant.specs.Ranges.{IsDevice};
 ghost use Rattle.prem_syntax.specs.Name.{name_bytes};
 ghost use Rattle.prem_layout.specs.Placed.{name_at};
-ghost use Rattle.prem_place.specs.Placed.PlacedOf.{coded_of};
-ghost use Rattle.prem_place.specs.Placing.CodedOf.{coded_in};
+ghost use Rattle.prem_prefetch.specs.Sizes.CodedOf.{coded_in};
 ghost use Rattle.prem_tasks.specs.Broken.{global_name};
-ghost use Rattle.prem_tasks.specs.Compiled.{part_name};
-ghost use Rattle.prem_compile.specs.Telling.Named.{named_coded, named_in, named_placed};
+ghost use Rattle.prem_tasks.specs.Compiled.{part_name, parts_in};
+ghost use Rattle.prem_tasks.specs.SetOf.{set_of};
+ghost use Rattle.prem_compile.specs.Joined.{HasCode};
+ghost use Rattle.prem_compile.specs.Telling.Named.{AreNamed};
 ghost use Rattle.prem_compile.specs.Telling.There.{HasName, IsThere};
 
 use prem_list::Sequence;
-use prem_place::placed::PlacedTask;
 use prem_place::placing::CodedTask;
 use prem_plant::{Device, FnId, Label, PartKind, PartSize};
 use prem_syntax::{Name, copy_name};
-use prem_tree::resolve::Resolved;
+use prem_tasks::TaskSet;
 use std::alloc::{AllocError, Global};
 
-/// A task's name and its program, after which its parts are named.
-#[derive(Clone, Copy)]
-pub struct NamedTask<'a, 'p> {
-    name: &'a Label,
-    program: &'a Resolved<'p>,
-    /// The turns of its counting loops, in the order of the text.
-    turns: &'a [u32],
+/// The parts of a set, in the order of the layout, with their names.
+#[derive(Drop)]
+pub struct NamedParts {
+    pub sizes: Vec<PartSize>,
+    /// A start and a stack have their task's name, any other part has its function's, global's or device's.
+    pub names: Sequence<Name>,
 }
 
 /// The name of a task or of a device.
@@ -42,19 +41,19 @@ fn label_name(alloc: Global, label: &Label) -> Result<Name, AllocError>
 }
 
 /// The name of a function of a task.
-fn routine_name(alloc: Global, task: &NamedTask, f: FnId) -> Result<Name, AllocError>
-    requires { f < length (named_in task.now).program.routines }
-    ensures { IfOk result (λ name. name_bytes name ≡ name_at (named_in task.now).program.routines f) }
+fn routine_name(alloc: Global, task: &CodedTask, f: FnId) -> Result<Name, AllocError>
+    requires { f < length (coded_in task.now).program.routines }
+    ensures { IfOk result (λ name. name_bytes name ≡ name_at (coded_in task.now).program.routines f) }
 {
-    let program = task.program;
+    let program = &task.program;
     let text = program.routines.items()[usize::from(f)].text;
     copy_name(alloc, &text.name)
 }
 
 /// The name of a global of a task.
-fn global_name(alloc: Global, task: &NamedTask, g: u16) -> Result<Name, AllocError>
-    requires { g < length (named_in task.now).program.globals }
-    ensures { IfOk result (λ name. name_bytes name ≡ global_name (named_in task.now).program.globals g) }
+fn global_name(alloc: Global, task: &CodedTask, g: u16) -> Result<Name, AllocError>
+    requires { g < length (coded_in task.now).program.globals }
+    ensures { IfOk result (λ name. name_bytes name ≡ global_name (coded_in task.now).program.globals g) }
 {
     let global = task.program.globals[usize::from(g)];
     copy_name(alloc, &global.name)
@@ -64,13 +63,13 @@ fn global_name(alloc: Global, task: &NamedTask, g: u16) -> Result<Name, AllocErr
 fn part_name(
     alloc: Global,
     devices: &[Device],
-    tasks: &[NamedTask],
+    tasks: &[CodedTask],
     part: &PartSize,
 ) -> Result<Name, AllocError>
     requires devices { All IsDevice devices.now }
-    requires tasks { AllByRecursion HasName (map named_in tasks.now) }
-    requires part { IsThere devices.now (map named_in tasks.now) part.now }
-    ensures { IfOk result (λ name. name_bytes name ≡ part_name devices.now (map named_in tasks.now) part.now) }
+    requires tasks { AllByRecursion HasName (map coded_in tasks.now) }
+    requires part { IsThere devices.now (map coded_in tasks.now) part.now }
+    ensures { IfOk result (λ name. name_bytes name ≡ part_name devices.now (map coded_in tasks.now) part.now) }
 {
     let task = usize::from(part.task);
     match part.kind {
@@ -87,13 +86,13 @@ fn part_name(
 fn names_by(
     alloc: Global,
     devices: &[Device],
-    tasks: &[NamedTask],
+    tasks: &[CodedTask],
     parts: &[PartSize],
 ) -> Result<Sequence<Name>, AllocError>
     requires devices { All IsDevice devices.now }
-    requires tasks { AllByRecursion HasName (map named_in tasks.now) }
-    requires parts { All (IsThere devices.now (map named_in tasks.now)) parts.now }
-    ensures { IfOk result (λ names. map name_bytes (items_of names) ≡ map (part_name devices.now (map named_in tasks.now)) parts.now) }
+    requires tasks { AllByRecursion HasName (map coded_in tasks.now) }
+    requires parts { All (IsThere devices.now (map coded_in tasks.now)) parts.now }
+    ensures { IfOk result (λ names. map name_bytes (items_of names) ≡ map (part_name devices.now (map coded_in tasks.now)) parts.now) }
 {
     let mut names = Sequence::new(alloc);
     for part in parts {
@@ -103,83 +102,19 @@ fn names_by(
     Ok(names)
 }
 
-/// A placed task by its name.
-fn placed_named<'a, 'p>(task: &PlacedTask<'a, 'p>) -> NamedTask<'a, 'p>
-    ensures { named_in result ≡ named_placed task.now }
-{
-    NamedTask {
-        name: task.name,
-        program: task.program,
-        turns: task.turns,
-    }
-}
-
-fn all_placed<'a, 'p>(
+/// The parts of a set's tasks with their names. It fails only for want of memory.
+pub fn named_parts(
     alloc: Global,
-    tasks: &[PlacedTask<'a, 'p>],
-) -> Result<Vec<NamedTask<'a, 'p>>, AllocError>
-    ensures { IfOk result (λ all. map named_in all.items ≡ map named_placed tasks.now) }
-{
-    let mut all = Vec::new(alloc);
-    for task in tasks {
-        all.push(placed_named(task))?;
-    }
-    Ok(all)
-}
-
-/// A task with its code by its name.
-fn coded_named<'a, 'p>(task: &CodedTask<'a, 'p>) -> NamedTask<'a, 'p>
-    ensures { named_in result ≡ named_coded task.now }
-{
-    NamedTask {
-        name: task.name,
-        program: task.program,
-        turns: task.turns,
-    }
-}
-
-fn all_coded<'a, 'p>(
-    alloc: Global,
-    tasks: &[CodedTask<'a, 'p>],
-) -> Result<Vec<NamedTask<'a, 'p>>, AllocError>
-    ensures { IfOk result (λ all. map named_in all.items ≡ map named_coded tasks.now) }
-{
-    let mut all = Vec::new(alloc);
-    for task in tasks {
-        all.push(coded_named(task))?;
-    }
-    Ok(all)
-}
-
-/// The names of parts: a start and a stack have their task's, any other part has its function's, global's or device's. It
-/// fails only for want of memory.
-pub fn names_of_parts(
-    alloc: Global,
-    devices: &[Device],
-    tasks: &[PlacedTask],
-    parts: &[PartSize],
-) -> Result<Sequence<Name>, AllocError>
-    requires devices { All IsDevice devices.now }
-    requires tasks { AllByRecursion HasName (map coded_of tasks.now) }
-    requires parts { All (IsThere devices.now (map coded_of tasks.now)) parts.now }
-    ensures { IfOk result (λ names. map name_bytes (items_of names) ≡ map (part_name devices.now (map coded_of tasks.now)) parts.now) }
-{
-    let named = all_placed(alloc, tasks)?;
-    names_by(alloc, devices, &named, parts)
-}
-
-/// So they are where parts have no places yet.
-pub fn names_of_coded(
-    alloc: Global,
-    devices: &[Device],
+    set: &TaskSet,
     tasks: &[CodedTask],
-    parts: &[PartSize],
-) -> Result<Sequence<Name>, AllocError>
-    requires devices { All IsDevice devices.now }
-    requires tasks { AllByRecursion HasName (map coded_in tasks.now) }
-    requires parts { All (IsThere devices.now (map coded_in tasks.now)) parts.now }
-    ensures { IfOk result (λ names. map name_bytes (items_of names) ≡ map (part_name devices.now (map coded_in tasks.now)) parts.now) }
+    sizes: Vec<PartSize>,
+) -> Result<NamedParts, AllocError>
+    requires code { HasCode (set_of set.now) tasks.now }
+    requires sizes { sizes.items ≡ parts_in (set_of set.now) }
+    ensures { IfOk result (AreNamed (set_of set.now)) }
 {
-    let named = all_coded(alloc, tasks)?;
-    names_by(alloc, devices, &named, parts)
+    let devices = set.devices();
+    let _stated = set.tasks();
+    let names = names_by(alloc, devices, tasks, &sizes)?;
+    Ok(NamedParts { sizes, names })
 }

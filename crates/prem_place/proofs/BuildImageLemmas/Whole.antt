@@ -42,10 +42,10 @@ routines_long turns m (r ∷ rs) = ap suc (routines_long turns (m + loops_of r.b
 
 count_is : (p : Plant) (whole : List Extent) (t : PlacedTask) → placed_of t ≡ placed_at p (coded_of t) (task_places (coded_of t).program whole) → count_of t ≡ part_count (coded_of t).program
 count_is p whole t e =
-    let a : length (coded_of t).program.routines ≡ length (routines_of t) = routines_long (slice_index t.turns.now) 0 (routines_of t) in
+    let a : length (coded_of t).program.routines ≡ length (routines_of t) = routines_long (slice_index t.turns.items) 0 (routines_of t) in
     let b : length (placed_of t).plans ≡ length (plans.plans_of (coded_of t).program) = ap (λ (q : Placed). length q.plans) e in
     let c : length (placed_of t).plans ≡ length (items_of t.plans) = length-map (items_of t.plans) _ in
-    let d : length (coded_of t).program.globals ≡ length t.program.now.globals.items = length-map t.program.now.globals.items _ in
+    let d : length (coded_of t).program.globals ≡ length t.program.globals.items = length-map t.program.globals.items _ in
     omega (arith, a, b, c, d)
 
 total_is : (p : Plant) (whole : List Extent) (tasks : List PlacedTask) → map placed_of tasks ≡ placed_from p whole (map coded_of tasks) → total_of tasks ≡ part_total (map coded_of tasks)

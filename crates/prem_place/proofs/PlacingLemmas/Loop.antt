@@ -8,8 +8,9 @@ use Rattle.prem_layout.specs.Parts.{part_count}
 use Rattle.prem_layout.specs.Placed.{Coded, Placed, placed_at, placed_from, task_places}
 use Rattle.prem_place.specs.Placed.PlacedOf.{placed_of, IsPlacedTask}
 use Rattle.prem_place.specs.declared.placed.PlacedTask.{PlacedTask}
-use Rattle.prem_place.specs.declared.placing.coded.CodedTask.{CodedTask}
-use Rattle.prem_place.specs.Placing.CodedOf.{coded_in, IsCodedTask, AreAtPlaces}
+use Rattle.prem_prefetch.specs.declared.sizes.coded.CodedTask.{CodedTask}
+use Rattle.prem_prefetch.specs.Sizes.CodedOf.{coded_in, IsCodedTask}
+use Rattle.prem_place.specs.Placing.CodedOf.{AreAtPlaces}
 use Rattle.prem_place.specs.Placing.Standing.{TaskLies, TasksLie, stands_in}
 use Rattle.prem_place.proofs.PlacingLemmas.Stood.{all_lie, first_lies, rest_lie, drop_more}
 use Rattle.prem_place.proofs.PlacingLemmas.Placing.{code_long}

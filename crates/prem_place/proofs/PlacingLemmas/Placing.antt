@@ -32,8 +32,8 @@ use Rattle.prem_prefetch.proofs.SizesLemmas.Programs.{as_many_codes as codes_cou
 use Rattle.prem_bounds.specs.TableOf.{listed}
 use Rattle.prem_place.specs.Placed.PlacedOf.{placed_of, routines_of, IsPlacedTask}
 use Rattle.prem_place.specs.declared.placed.PlacedTask.{PlacedTask}
-use Rattle.prem_place.specs.declared.placing.coded.CodedTask.{CodedTask}
-use Rattle.prem_place.specs.Placing.CodedOf.{coded_in, IsCodedTask}
+use Rattle.prem_prefetch.specs.declared.sizes.coded.CodedTask.{CodedTask}
+use Rattle.prem_prefetch.specs.Sizes.CodedOf.{coded_in, IsCodedTask}
 use Rattle.prem_place.specs.Placing.Standing.{TaskLies, stands_in, IsStanding}
 use Rattle.prem_place.proofs.PlacingLemmas.Formed.{has_its_job}
 use Rattle.prem_place.proofs.PlacingLemmas.Stood.{are_counted, Stood, stood}
@@ -47,12 +47,12 @@ pub record HasFew (r : ResolvedTree) : Type 0 where
   pub globals : length r.globals.items ≤ 256
   pub job : r.job < length (items_of r.routines)
 
-pub tree_few : (task : CodedTask) → IsCodedTask task → HasFew task.program.now
+pub tree_few : (task : CodedTask) → IsCodedTask task → HasFew task.program
 tree_few task h =
-    let r : ResolvedTree = task.program.now in
+    let r : ResolvedTree = task.program in
     let counted = are_counted h.text h.bounds h.formed in
     let job = has_its_job h.text h.bounds h.formed in
-    let long : length (coded_in task).program.routines ≡ length (items_of r.routines) = routines_long (slice_index task.turns.now) 0 (items_of r.routines) in
+    let long : length (coded_in task).program.routines ≡ length (items_of r.routines) = routines_long (slice_index task.turns.items) 0 (items_of r.routines) in
     let functions = ap (λ (q : Resolved). length q.routines) h.same in
     let globals = ap (λ (q : Resolved). length q.globals) h.same in
     let number : r.job ≡ (resolve h.bounds h.text).job = ap (λ (q : Resolved). q.job) h.same in
@@ -75,17 +75,17 @@ module _ (p : Plant) (task : CodedTask) (places : List Extent) (plant : IsPlant 
   standing : Stood p c places
   standing = stood h.target p c h.text h.bounds places plant h.same h.formed h.fits h.code lies
 
-  at_is : (t : TaskPlaces) → t ≡ places_in task.program.now places → t ≡ at
-  at_is t e = e ∙ places_are (slice_index task.turns.now) task.program.now places
+  at_is : (t : TaskPlaces) → t ≡ places_in task.program places → t ≡ at
+  at_is t e = e ∙ places_are (slice_index task.turns.items) task.program places
 
   -- its plans may be looked at with its places
-  pub plans_may : (t : TaskPlaces) (plans : List IntervalPlan) → t ≡ places_in task.program.now places → plans ≡ items_of task.plans → AllByRecursion (IsPlanAt t) (map plan_of plans)
+  pub plans_may : (t : TaskPlaces) (plans : List IntervalPlan) → t ≡ places_in task.program places → plans ≡ items_of task.plans → AllByRecursion (IsPlanAt t) (map plan_of plans)
   plans_may t plans et ep =
       let all : map plan_of plans ≡ layout.plans_of c.program = ap (map plan_of) ep ∙ h.plans in
       subst (λ (q : TaskPlaces). AllByRecursion (IsPlanAt q) (map plan_of plans)) (sym (at_is t et)) (subst (AllByRecursion (IsPlanAt at)) (sym all) standing.plans)
 
   -- the task at these places, with these stubs
-  module _ (t : TaskPlaces) (plans : List IntervalPlan) (stubs : Sequence (Sequence Piece)) (et : t ≡ places_in task.program.now places) (ep : plans ≡ items_of task.plans)
+  module _ (t : TaskPlaces) (plans : List IntervalPlan) (stubs : Sequence (Sequence Piece)) (et : t ≡ places_in task.program places) (ep : plans ≡ items_of task.plans)
       (es : listed (items_of stubs) ≡ map (stub_of (stub_passes p) p.line t) (map plan_of plans)) where
     abbrev placed : PlacedTask
     placed = record {
@@ -96,7 +96,7 @@ module _ (p : Plant) (task : CodedTask) (places : List Extent) (plant : IsPlant 
       turns = task.turns;
       places = t;
       plans = task.plans;
-      table = record { code = task.code; stubs = stubs; job = task.program.now.job };
+      table = record { code = task.code; stubs = stubs; job = task.program.job };
     }
 
     stubs_are : listed (items_of stubs) ≡ map (stub_of (stub_passes p) p.line at) (layout.plans_of c.program)
@@ -115,8 +115,8 @@ module _ (p : Plant) (task : CodedTask) (places : List Extent) (plant : IsPlant 
         let e : t ≡ at = at_is t et in
         let few = tree_few task h in
         let counted = are_counted h.text h.bounds h.formed in
-        let code : length (items_of task.code) ≡ length (items_of task.program.now.routines) =
-        sym (length-map (items_of task.code) (λ (s : Sequence Piece). pieces_of (items_of s))) ∙ code_long task h ∙ routines_long (slice_index task.turns.now) 0 (items_of task.program.now.routines) in
+        let code : length (items_of task.code) ≡ length (items_of task.program.routines) =
+        sym (length-map (items_of task.code) (λ (s : Sequence Piece). pieces_of (items_of s))) ∙ code_long task h ∙ routines_long (slice_index task.turns.items) 0 (items_of task.program.routines) in
         let stubs_long : length (items_of stubs) ≡ length (layout.plans_of c.program) =
         sym (length-map (items_of stubs) (λ (s : Sequence Piece). pieces_of (items_of s))) ∙ ap length stubs_are ∙ length-map (layout.plans_of c.program) (stub_of (stub_passes p) p.line at) in
         let count = ap (λ (q : Resolved). length (layout.plans_of q)) h.same in
@@ -130,10 +130,10 @@ module _ (p : Plant) (task : CodedTask) (places : List Extent) (plant : IsPlant 
 
 -- how many parts it has
 pub parts_counted : (t : PlacedTask) (functions plans globals : ℕ) → stands_in t → functions ≡ length (routines_of t) →
-    plans ≡ length (items_of t.plans) → globals ≡ length t.program.now.globals.items →
+    plans ≡ length (items_of t.plans) → globals ≡ length t.program.globals.items →
     2 + functions + plans + globals ≡ part_count (placed_of t).task.program
 parts_counted t functions plans globals s ef ep eg =
-    let a = routines_long (slice_index t.turns.now) 0 (routines_of t) in
+    let a = routines_long (slice_index t.turns.items) 0 (routines_of t) in
     let b : length (items_of t.plans) ≡ length (layout.plans_of (placed_of t).task.program) = sym (length-map (items_of t.plans) plan_of) ∙ ap length s.plans in
-    let d = length-map t.program.now.globals.items (λ (g : Bor GlobalTree). global_of g.now) in
+    let d = length-map t.program.globals.items (λ (g : Bor GlobalTree). global_of g.now) in
     omega (arith, ef, ep, eg, a, b, d)

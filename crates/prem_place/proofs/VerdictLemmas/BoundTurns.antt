@@ -54,7 +54,7 @@ large_found p t job jl flags ej ef el =
     ap (λ j. first_large j jl 0 flags (map is_marked_tree (routines_of t))) ej
     ∙ ap (λ b. first_large t.table.job b 0 flags (map is_marked_tree (routines_of t))) el
     ∙ ap (λ bs. first_large t.table.job large 0 bs (map is_marked_tree (routines_of t))) ef
-    ∙ ap (λ ms. first_large t.table.job large 0 (map is_large (interval_facts p (placed_of t))) ms) (marks_are (slice_index t.turns.now) 0 (routines_of t))
+    ∙ ap (λ ms. first_large t.table.job large 0 (map is_large (interval_facts p (placed_of t))) ms) (marks_are (slice_index t.turns.items) 0 (routines_of t))
 
 other_case : (b : Bool) (n f end : ℕ) (rest : Option ℕ) → n < end → (rest ≡ Some f → f < end) → or_else (cond b (Some n) None) rest ≡ Some f → f < end
 other_case true n f end rest lt more e = let same : n ≡ f = cc in omega (arith, lt, same)
@@ -96,7 +96,7 @@ told_is p t n facts job h e ej none =
 
 pub job_is_small : (p : Plant) (t : PlacedTask) → IsPlacedTask p t → large_in p (placed_of t) ≡ None → nat_lt greatest_bound (job_bound_of p (plans_of t) (table_of t.table)) ≡ false
 job_is_small p t h none =
-    let same : t.table.job ≡ t.program.now.job = ap (λ (q : Placed). q.table.job) h.same in
+    let same : t.table.job ≡ t.program.job = ap (λ (q : Placed). q.table.job) h.same in
     let inside : t.table.job < 0 + length (map is_marked (coded_of t).program.routines) = omega (arith, same, h.job, mapped_long is_marked (coded_of t).program.routines, plain_long t) in
     job_small t.table.job _ 0 (map is_large (interval_facts p (placed_of t))) (map is_marked (coded_of t).program.routines) (omega arith) inside none
 

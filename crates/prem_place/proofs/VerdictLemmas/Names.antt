@@ -25,7 +25,7 @@ routines_at (x ∷ xs) zero t lt is = ap (λ (q : PlacedTask). (placed_of q).tas
 routines_at (x ∷ xs) (suc n) t lt is = routines_at xs n t (omega arith) is
 
 pub plain_long : (t : PlacedTask) → length (placed_of t).task.program.routines ≡ length (routines_of t)
-plain_long t = routines_long (slice_index t.turns.now) 0 (routines_of t)
+plain_long t = routines_long (slice_index t.turns.items) 0 (routines_of t)
 
 function_within : (tasks : List PlacedTask) (n f : ℕ) (t : PlacedTask) → HasFunction (map placed_of tasks) n f → n < length tasks → t ≡ get_or tasks n t → f < length (routines_of t)
 function_within tasks n f t h lt is = omega (arith, h.function, ap length (routines_at tasks n t lt is), plain_long t)
@@ -38,7 +38,7 @@ name_from turns m (x ∷ xs) (suc f) r lt is = name_from turns (m + loops_of x.b
 pub name_is : (tasks : List PlacedTask) (n f : ℕ) (t : PlacedTask) (r : Routine) → n < length tasks → t ≡ get_or tasks n t → f < length (routines_of t) → r ≡ get_or (routines_of t) f r →
     name_bytes r.text.now.name ≡ name_in (map placed_of tasks) n f
 name_is tasks n f t r lt is inside at =
-    name_from (slice_index t.turns.now) 0 (routines_of t) f r inside at ∙ ap (λ rs. name_at rs f) (sym (routines_at tasks n t lt is))
+    name_from (slice_index t.turns.items) 0 (routines_of t) f r inside at ∙ ap (λ rs. name_at rs f) (sym (routines_at tasks n t lt is))
 
 -- ---- at numbers that are found in code
 

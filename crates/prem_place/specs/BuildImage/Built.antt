@@ -15,7 +15,7 @@ use Rattle.prem_place.specs.Imaging.Standing.{HasBlocks}
 
 -- how many parts a task in memory has
 abbrev pub count_of : PlacedTask → ℕ
-count_of t = 2 + length (routines_of t) + length (items_of t.plans) + length t.program.now.globals.items
+count_of t = 2 + length (routines_of t) + length (items_of t.plans) + length t.program.globals.items
 
 abbrev pub total_of : List PlacedTask → ℕ
 total_of [] = 0
@@ -26,7 +26,7 @@ pub record HasRanges (t : PlacedTask) : Type 0 where
   pub name : IsName t.name.now
   pub period : Between 1 4294967295 t.period
   pub jobs : Between 1 65535 t.jobs
-  pub globals : length t.program.now.globals.items ≤ 65536
+  pub globals : length t.program.globals.items ≤ 65536
   pub code : length (coded_of t).code ≡ length (coded_of t).program.routines
 
 abbrev pub task_names : List PlacedTask → List (List ℕ)

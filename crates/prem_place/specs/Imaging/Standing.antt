@@ -15,7 +15,7 @@ HasBlocks t blocks = map block_of blocks ≡ map words_of (blocks_of (placed_of 
 pub record Fits (end : ℕ) (t : PlacedTask) (blocks : List BlockFound) : Type 0 where
   pub code : HasBlocks t blocks
   pub ends : AllByRecursion (EndsBy end) blocks
-  pub count : length t.program.now.globals.items ≤ 65536
+  pub count : length t.program.globals.items ≤ 65536
   pub globals : HasGlobals end t.places 0 (placed_of t).task.program.globals
 
 -- each task has its blocks

@@ -18,7 +18,7 @@ coded_of t = record {
   name = t.name.now;
   period = t.period;
   jobs = t.jobs;
-  program = resolved_of (slice_index t.turns.now) t.program.now;
+  program = resolved_of (slice_index t.turns.items) t.program;
   code = listed (items_of t.table.code);
 }
 
@@ -30,7 +30,7 @@ abbrev pub placed_of : PlacedTask → Placed
 placed_of t = record { task = coded_of t; at = t.places; plans = plans_of t; table = table_of t.table }
 
 abbrev pub routines_of : PlacedTask → List Routine
-routines_of t = items_of t.program.now.routines
+routines_of t = items_of t.program.routines
 
 -- its plans and its code are those of its program, and its plans may be looked at with its places
 pub record IsPlacedTask (p : Plant) (t : PlacedTask) : Type 0 where
@@ -38,7 +38,7 @@ pub record IsPlacedTask (p : Plant) (t : PlacedTask) : Type 0 where
   pub table : IsTable t.table
   pub plans : AllByRecursion (IsPlanAt t.places) (plans_of t)
   pub functions : length (routines_of t) ≤ 256
-  pub job : t.program.now.job < length (routines_of t)
+  pub job : t.program.job < length (routines_of t)
 
 -- the lines of its marked functions
 abbrev pub lines_of : Plant → PlacedTask → List (List ℕ)

@@ -10,16 +10,17 @@ ghost use Rattle.prem_split.specs.PlanOf.{plan_of};
 ghost use Rattle.prem_foot.specs.PlacesOf.{IsPlanAt};
 ghost use Rattle.prem_bounds.specs.TableOf.{listed};
 ghost use Rattle.prem_place.specs.Placed.PlacedOf.{IsPlacedTask, placed_of};
-ghost use Rattle.prem_place.specs.Placing.CodedOf.{coded_in, IsCodedTask, AreAtPlaces};
+ghost use Rattle.prem_prefetch.specs.Sizes.CodedOf.{coded_in, IsCodedTask};
+ghost use Rattle.prem_place.specs.Placing.CodedOf.{AreAtPlaces};
 ghost use Rattle.prem_place.specs.Placing.Standing.{TaskLies, stands_in};
 
 use crate::placed::PlacedTask;
-use crate::placing::coded::CodedTask;
 use prem_asm::Piece;
 use prem_bounds::CodeTable;
 use prem_foot::TaskPlaces;
 use prem_list::Sequence;
 use prem_plant::{Layout, Plant};
+use prem_prefetch::sizes::CodedTask;
 use prem_prefetch::stub;
 use prem_split::IntervalPlan;
 use std::alloc::{AllocError, Global};
@@ -59,7 +60,7 @@ pub fn place_task<'a, 'p>(
     ensures placed { IfOk result (IsPlacedTask p.now) }
     ensures stands { IfOk result stands_in }
 {
-    let places = TaskPlaces::of_resolved(alloc, task.program, l, first)?;
+    let places = TaskPlaces::of_resolved(alloc, &task.program, l, first)?;
     let stubs = stubs_of(alloc, task.plans.items(), &places, p)?;
     let job = task.program.job as u16;
     Ok(PlacedTask {
@@ -84,7 +85,7 @@ pub fn part_count(t: &PlacedTask) -> usize
     ensures count { result ≡ part_count (placed_of t.now).task.program }
     ensures few { result ≤ 1024 }
 {
-    let program = t.program;
+    let program = &t.program;
     2 + program.routines.items().len() + t.plans.items().len() + program.globals.len()
 }
 

@@ -28,7 +28,7 @@ fn all_outputs(alloc: Global, tasks: &[PlacedTask]) -> Result<u64, AllocError>
 {
     let mut sum = 0;
     for task in tasks {
-        let count = outputs(alloc, task.program, task.turns)?;
+        let count = outputs(alloc, &task.program, &task.turns)?;
         sum = plus(sum, times(task.jobs, count));
     }
     Ok(sum)
@@ -40,7 +40,7 @@ fn all_intervals(alloc: Global, tasks: &[PlacedTask]) -> Result<u64, AllocError>
 {
     let mut sum = 0;
     for task in tasks {
-        let calls = marked_calls(alloc, task.program, task.turns)?;
+        let calls = marked_calls(alloc, &task.program, &task.turns)?;
         let count = plus(1, times(2, calls));
         sum = plus(sum, times(task.jobs, count));
     }

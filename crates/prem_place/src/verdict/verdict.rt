@@ -42,7 +42,7 @@ pub fn function_name(
     requires { HasFunction (map placed_of tasks.now) task f }
     ensures { IfOk result (λ name. name_bytes name ≡ name_in (map placed_of tasks.now) task f) }
 {
-    let program = tasks[usize::from(task)].program;
+    let program = &tasks[usize::from(task)].program;
     let text = program.routines.items()[usize::from(f)].text;
     copy_name(alloc, &text.name)
 }

@@ -12,22 +12,20 @@ use Rattle.prem_plant.specs.declared.layout.PartSize.{PartSize}
 use Rattle.prem_plant.specs.Ranges.{IsDevice}
 use Rattle.prem_syntax.specs.Syntax.{GlobalVariable}
 use Rattle.prem_syntax.specs.SyntaxOf.{global_of}
-use Rattle.prem_syntax.specs.Resolved.{Resolved}
 use Rattle.prem_asm.specs.declared.piece.Piece.{Piece}
-use Rattle.prem_asm.specs.Pieces.{Pieces, size_of}
+use Rattle.prem_asm.specs.Pieces.{size_of}
 use Rattle.prem_asm.specs.PiecesOf.{pieces_of}
-use Rattle.prem_layout.specs.Template.Frames.{stack_size}
 use Rattle.prem_layout.specs.Plans.{Plan}
 use Rattle.prem_layout.specs.Parts.{Passes, stub_passes, part, code_parts, stub_parts, global_parts, task_parts, parts_from, area_parts}
-use Rattle.prem_layout.specs.Placed.{Coded, sized_of}
+use Rattle.prem_layout.specs.Placed.{sized_of}
 use Rattle.prem_layout.proofs.Lawful.{whole_areas, areas_may, code_may, globals_may, all_aligned, may_append, AllMay, stubs_may}
 use Rattle.prem_layout.proofs.TaskParts.{code_counted, globals_counted, areas_counted}
 use Rattle.prem_split.specs.PlanOf.{plan_of}
-use Rattle.prem_prefetch.specs.Parts.Parts.{sizes_of, stack_in, parts_with}
-use Rattle.prem_prefetch.specs.declared.sizes.sizes.SizedTask.{SizedTask}
-use Rattle.prem_prefetch.specs.Sizes.Sizes.{globals_in, codes_in, IsSized, AreSized, sized_parts, sized_from, parts_in, MayHavePlaces, MayHaveParts}
+use Rattle.prem_prefetch.specs.Parts.Parts.{sizes_of, parts_with}
+use Rattle.prem_prefetch.specs.declared.sizes.coded.CodedTask.{CodedTask}
+use Rattle.prem_prefetch.specs.Sizes.CodedOf.{codes_in, coded_in, IsCodedTask}
+use Rattle.prem_prefetch.specs.Sizes.Sizes.{globals_in, sized_parts, sized_from, parts_in, MayHavePlaces, MayHaveParts}
 use Rattle.prem_prefetch.specs.Sizes.Laws.{PartsAreExact}
-use Rattle.prem_prefetch.proofs.PartsLemmas.Stacks.{stacks_are_exact}
 
 -- ---- the same parts
 
@@ -35,23 +33,19 @@ sizes_are : (code : List (Sequence Piece)) → sizes_of code ≡ map size_of (co
 sizes_are [] = refl
 sizes_are (s ∷ ss) = ap (λ ns. size_of (pieces_of (items_of s)) ∷ ns) (sizes_are ss)
 
-task_same : (passes : Passes) (n : ℕ) (t : SizedTask) (c : Coded) → IsSized t c → sized_parts passes n t ≡ task_parts passes n (map size_of c.code) c.program
-task_same passes n t c is =
-    let sizes : sizes_of t.code.now ≡ map size_of c.code = sizes_are t.code.now ∙ ap (λ (pss : List Pieces). map size_of pss) is.code in
-    let globals : globals_in t.program.now ≡ c.program.globals = ap (λ (q : Resolved). q.globals) is.program in
-    let stack : stack_in t.program.now ≡ stack_size c.program = stacks_are_exact is.turns t.program.now ∙ ap stack_size is.program in
-    λ i. parts_with passes n (sizes i) (is.plans i) (globals i) (stack i)
+task_same : (passes : Passes) (n : ℕ) (t : CodedTask) → IsCodedTask t → sized_parts passes n t ≡ task_parts passes n (map size_of (coded_in t).code) (coded_in t).program
+task_same passes n t is =
+    let sizes : sizes_of (items_of t.code) ≡ map size_of (coded_in t).code = sizes_are (items_of t.code) in
+    λ i. parts_with passes n (sizes i) (is.plans i) (coded_in t).program.globals (is.stack i)
 
-tasks_same : (passes : Passes) (n : ℕ) (ts : List SizedTask) (cs : List Coded) → AreSized ts cs → sized_from passes n ts ≡ parts_from passes n (map sized_of cs)
-tasks_same passes n [] [] h = refl
-tasks_same passes n [] (c ∷ cs) h = absurd h
-tasks_same passes n (t ∷ ts) [] h = absurd h
-tasks_same passes n (t ∷ ts) (c ∷ cs) h =
-    ap (λ (ps : List PartSize). ps ++ sized_from passes (n + 1) ts) (task_same passes n t c h.0)
-    ∙ ap (λ (ps : List PartSize). task_parts passes n (map size_of c.code) c.program ++ ps) (tasks_same passes (n + 1) ts cs h.1)
+tasks_same : (passes : Passes) (n : ℕ) (ts : List CodedTask) → AllByRecursion IsCodedTask ts → sized_from passes n ts ≡ parts_from passes n (map sized_of (map coded_in ts))
+tasks_same passes n [] h = refl
+tasks_same passes n (t ∷ ts) h =
+    ap (λ (ps : List PartSize). ps ++ sized_from passes (n + 1) ts) (task_same passes n t h.0)
+    ∙ ap (λ (ps : List PartSize). task_parts passes n (map size_of (coded_in t).code) (coded_in t).program ++ ps) (tasks_same passes (n + 1) ts h.1)
 
 pub parts_are_exact : PartsAreExact
-parts_are_exact p devices tasks coded h = ap (λ (ps : List PartSize). ps ++ area_parts p.line 0 devices) (tasks_same (stub_passes p) 0 tasks coded h)
+parts_are_exact p devices tasks h = ap (λ (ps : List PartSize). ps ++ area_parts p.line 0 devices) (tasks_same (stub_passes p) 0 tasks h)
 
 -- ---- few parts
 
@@ -68,18 +62,18 @@ many_with passes n sizes plans globals stack =
     let last : List PartSize = part n Stack stack 16 ∷ [] in
     omega (arith, length-append codes (stubs ++ (gs ++ last)), length-append stubs (gs ++ last), length-append gs last, code_counted n 0 sizes, many_stubs passes n plans, globals_counted n 0 globals)
 
-few_of : (passes : Passes) (n : ℕ) (t : SizedTask) → MayHaveParts t → length (sized_parts passes n t) ≤ 1026
+few_of : (passes : Passes) (n : ℕ) (t : CodedTask) → MayHaveParts t → length (sized_parts passes n t) ≤ 1026
 few_of passes n t may =
-    let all = many_with passes n (sizes_of t.code.now) (map plan_of t.plans.now) (globals_in t.program.now) (stack_in t.program.now) in
-    let codes : length (sizes_of t.code.now) ≡ length t.code.now = length-map t.code.now _ in
-    let plans : length (map plan_of t.plans.now) ≡ length t.plans.now = length-map t.plans.now plan_of in
-    let globals : length (globals_in t.program.now) ≡ length t.program.now.globals.items = length-map t.program.now.globals.items (λ g. global_of g.now) in
+    let all = many_with passes n (sizes_of (items_of t.code)) (map plan_of (items_of t.plans)) (globals_in t.program) t.stack in
+    let codes : length (sizes_of (items_of t.code)) ≡ length (items_of t.code) = length-map (items_of t.code) _ in
+    let plans : length (map plan_of (items_of t.plans)) ≡ length (items_of t.plans) = length-map (items_of t.plans) plan_of in
+    let globals : length (globals_in t.program) ≡ length t.program.globals.items = length-map t.program.globals.items (λ g. global_of g.now) in
     let a = may.codes in
     let b = may.marked in
     let c = may.program.globals in
     omega (arith, all, codes, plans, globals, a, b, c)
 
-few_from : (passes : Passes) (n : ℕ) (ts : List SizedTask) → AllByRecursion MayHaveParts ts → length (sized_from passes n ts) ≤ 1026 * length ts
+few_from : (passes : Passes) (n : ℕ) (ts : List CodedTask) → AllByRecursion MayHaveParts ts → length (sized_from passes n ts) ≤ 1026 * length ts
 few_from passes n [] h = omega arith
 few_from passes n (t ∷ ts) h =
     omega (arith, length-append (sized_parts passes n t) (sized_from passes (n + 1) ts), few_of passes n t h.0, few_from passes (n + 1) ts h.1)
@@ -94,14 +88,14 @@ task_may passes line n sizes plans globals stack = (
       (may_append line (global_parts n 0 globals) _ (globals_may line n 0 globals) (record { aligned = omega arith; whole = λ area. absurd area }, tt))),
 )
 
-tasks_may : (passes : Passes) (line n : ℕ) (ts : List SizedTask) → AllMay line (sized_from passes n ts)
+tasks_may : (passes : Passes) (line n : ℕ) (ts : List CodedTask) → AllMay line (sized_from passes n ts)
 tasks_may passes line n [] = tt
 tasks_may passes line n (t ∷ ts) =
     may_append line (sized_parts passes n t) _
-    (task_may passes line n (sizes_of t.code.now) (map plan_of t.plans.now) (globals_in t.program.now) (stack_in t.program.now))
+    (task_may passes line n (sizes_of (items_of t.code)) (map plan_of (items_of t.plans)) (globals_in t.program) t.stack)
     (tasks_may passes line (n + 1) ts)
 
-pub parts_may_have_places : (p : Plant) (devices : List Device) (tasks : List SizedTask) → 1 ≤ p.line → AllByRecursion MayHaveParts tasks → length tasks ≤ 16 → length devices ≤ 8 →
+pub parts_may_have_places : (p : Plant) (devices : List Device) (tasks : List CodedTask) → 1 ≤ p.line → AllByRecursion MayHaveParts tasks → length tasks ≤ 16 → length devices ≤ 8 →
     MayHavePlaces p.line (parts_in p devices tasks)
 parts_may_have_places p devices tasks pos may few_tasks few_devices =
     let passes = stub_passes p in

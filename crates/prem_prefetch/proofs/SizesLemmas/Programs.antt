@@ -1,5 +1,5 @@
 -- What a well-formed program that keeps to the rules on frames has: small frames, short plans, code of so many functions.
-use Rattle.std.specs.Prelude.{slice_index_or}
+use Rattle.std.specs.Prelude.{slice_index, slice_index_or}
 use Rattle.std.specs.List.{AllByRecursion}
 use Rattle.std.proofs.Common.{◌≡◌, ℕ, zero, suc, ◌+◌, ◌<◌, ◌≤◌, ◌^◌, Bool, true, false, cond, ltb, ltb-false, List, [], ◌∷◌, ◌++◌, length, map, set, replicate, refl, ap, sym, ◌∙◌}
 use Rattle.std.proofs.Common.{subst, arith, Option, None, Some}
@@ -26,6 +26,7 @@ use Rattle.prem_layout.specs.Template.Frames.{frame_of}
 use Rattle.prem_layout.specs.Template.Limits.{Excess, frame, greatest_frame, deep_excess, excess_of, excess_or, excess_among, excess, too_deep_function}
 use Rattle.prem_layout.specs.Template.Steps.{Parts}
 use Rattle.prem_layout.specs.Template.Parts.{codes_of, parts_of as code_parts_of}
+use Rattle.prem_layout.specs.Placed.{Coded}
 use Rattle.prem_layout.specs.Plans.{plan_of as plan_text, plan_before, plans_from, plans_of, region_of}
 use Rattle.prem_split.specs.PlanOf.{plan_of}
 use Rattle.prem_split.specs.PlansWith.{MayHavePlans}
@@ -33,7 +34,8 @@ use Rattle.prem_split.specs.Walk.{HasFrame}
 use Rattle.prem_split.proofs.PlansAre.{frame_same}
 use Rattle.prem_split.proofs.MayHave.{has_frame}
 use Rattle.prem_prefetch.specs.Parts.Parts.{sizes_of, IsShortPlan, IsShortGlobal, IsWordSize}
-use Rattle.prem_prefetch.specs.Sizes.Sizes.{globals_in, codes_in}
+use Rattle.prem_prefetch.specs.Sizes.CodedOf.{codes_in, coded_in}
+use Rattle.prem_prefetch.specs.Sizes.Sizes.{globals_in}
 use Rattle.prem_prefetch.specs.Sizes.Laws.{ProgramsMayHavePlans, TasksMayHaveParts, SetsMayHaveParts}
 use Rattle.prem_prefetch.proofs.SizesLemmas.Kept.{HasFewRegions, Kept, all_kept}
 
@@ -144,31 +146,30 @@ small_sizes [] h = tt
 small_sizes (s ∷ ss) h = (h.0, small_sizes ss h.1)
 
 pub tasks_may_have_parts : TasksMayHaveParts
-tasks_may_have_parts t c p is code =
+tasks_may_have_parts t p is code =
+    let c : Coded = coded_in t in
     let limits : Kept p = all_kept p code.formed in
     let functions : length c.program.routines ≡ length (functions_of p) =
     ap (λ (q : Resolved). length q.routines) code.program ∙ as_many (functions_of p) code.turns 0 [] p in
     let few = limits.functions in
     let few_there : length c.program.routines ≤ 256 = omega (arith, functions, few) in
-    let codes : length t.code.now ≡ length c.program.routines =
-    sym (length-map t.code.now (λ s. pieces_of (items_of s))) ∙ ap length (is.code ∙ code.code) ∙ as_many_codes (code_parts_of code.target c.program.routines) c.program.routines in
-    let plans : length t.plans.now ≡ length (plans_of c.program) = sym (length-map t.plans.now plan_of) ∙ ap length is.plans in
+    let codes : length (items_of t.code) ≡ length c.program.routines =
+    sym (length-map (items_of t.code) (λ s. pieces_of (items_of s))) ∙ ap length code.code ∙ as_many_codes (code_parts_of code.target c.program.routines) c.program.routines in
+    let plans : length (items_of t.plans) ≡ length (plans_of c.program) = sym (length-map (items_of t.plans) plan_of) ∙ ap length is.plans in
     let marked : AllByRecursion HasFewMarked c.program.routines =
     subst (λ (q : Resolved). AllByRecursion HasFewMarked q.routines) (sym code.program) (few_marked (functions_of p) code.turns 0 [] p limits.regions) in
     let few_marks = few_plans c.program 0 c.program.routines in
-    let small : AllByRecursion (λ ps. size_of ps < 2 ^ 32) c.code = recursion_from_All (λ ps. size_of ps < 2 ^ 32) c.code code.small in
-    let globals : globals_in t.program.now ≡ globals_of p = ap (λ (q : Resolved). q.globals) (is.program ∙ code.program) in
+    let globals : globals_in t.program ≡ globals_of p = ap (λ (q : Resolved). q.globals) code.program in
     record {
-      program = plans_of_tree t.program.now c.program p is.turns code.turns code.formed is.program code.program code.kept;
+      program = plans_of_tree t.program c.program p (slice_index t.turns.items) code.turns code.formed refl code.program code.kept;
       codes = omega (arith, codes, few_there);
-      small = small_sizes t.code.now (subst (AllByRecursion (λ ps. size_of ps < 2 ^ 32)) (sym is.code) small);
+      small = small_sizes (items_of t.code) (recursion_from_All (λ ps. size_of ps < 2 ^ 32) c.code code.small);
       marked = omega (arith, plans, few_marks, few_there);
       plans = subst (AllByRecursion IsShortPlan) (sym is.plans) (short_plans c.program 0 c.program.routines few_there marked);
       globals = subst (AllByRecursion IsShortGlobal) (sym globals) limits.lengths;
     }
 
 pub sets_may_have_parts : SetsMayHaveParts
-sets_may_have_parts [] cs ps is code = tt
-sets_may_have_parts (t ∷ ts) [] ps is code = absurd is
-sets_may_have_parts (t ∷ ts) (c ∷ cs) [] is code = absurd code
-sets_may_have_parts (t ∷ ts) (c ∷ cs) (p ∷ ps) is code = (tasks_may_have_parts t c p is.0 code.0, sets_may_have_parts ts cs ps is.1 code.1)
+sets_may_have_parts [] ps is code = tt
+sets_may_have_parts (t ∷ ts) [] is code = absurd code
+sets_may_have_parts (t ∷ ts) (p ∷ ps) is code = (tasks_may_have_parts t p is.0 code.0, sets_may_have_parts ts ps is.1 code.1)

@@ -1,7 +1,6 @@
 -- Tasks from what the compiler knows of them before their parts have places, and the parts of a set.
 use Rattle.std.specs.Prelude.{◌≡◌, ◌<◌, ◌≤◌, ⊤, ℕ, ◌+◌, ◌^◌, All, List, [], ◌∷◌, ◌++◌, length, map, None}
 use Rattle.std.specs.List.{AllByRecursion}
-use Rattle.prem_list.specs.declared.Sequence.{Sequence}
 use Rattle.prem_list.specs.Sequence.{items_of}
 use Rattle.prem_plant.specs.declared.plant.Target.{Target}
 use Rattle.prem_plant.specs.declared.plant.Plant.{Plant}
@@ -13,54 +12,32 @@ use Rattle.prem_syntax.specs.SyntaxOf.{global_of}
 use Rattle.prem_syntax.specs.ProgramRules.{IsWellFormed}
 use Rattle.prem_syntax.specs.Resolve.{resolve}
 use Rattle.prem_tree.specs.declared.resolve.resolved.Resolved.{Resolved as ResolvedTree}
-use Rattle.prem_tree.specs.Resolve.ResolvedOf.{resolved_of}
-use Rattle.prem_asm.specs.declared.piece.Piece.{Piece}
-use Rattle.prem_asm.specs.Pieces.{Pieces, size_of}
-use Rattle.prem_asm.specs.PiecesOf.{pieces_of}
+use Rattle.prem_asm.specs.Pieces.{size_of}
 use Rattle.prem_layout.specs.Template.Limits.{excess}
 use Rattle.prem_layout.specs.Template.Parts.{codes_of, parts_of as code_parts_of}
-use Rattle.prem_layout.specs.Plans.{plans_of}
 use Rattle.prem_layout.specs.Parts.{Passes, stub_passes, area_parts}
 use Rattle.prem_layout.specs.Placed.{Coded}
 use Rattle.prem_split.specs.PlanOf.{plan_of}
 use Rattle.prem_split.specs.PlansWith.{MayHavePlans}
-use Rattle.prem_prefetch.specs.Parts.Parts.{sizes_of, stack_in, parts_with, IsShortPlan, IsShortGlobal, IsWordSize}
-use Rattle.prem_prefetch.specs.declared.sizes.sizes.SizedTask.{SizedTask}
-
--- ---- a task in memory
+use Rattle.prem_prefetch.specs.Parts.Parts.{sizes_of, parts_with, IsShortPlan, IsShortGlobal, IsWordSize}
+use Rattle.prem_prefetch.specs.declared.sizes.coded.CodedTask.{CodedTask}
 
 abbrev pub globals_in : ResolvedTree → List GlobalVariable
 globals_in r = map (λ g. global_of g.now) r.globals.items
 
-abbrev pub codes_in : List (Sequence Piece) → List Pieces
-codes_in code = map (λ s. pieces_of (items_of s)) code
-
--- it stands for a task with its code, whose loops have some turns
-pub record IsSized (t : SizedTask) (c : Coded) : Type 0 where
-  pub turns : ℕ → ℕ
-  pub program : resolved_of turns t.program.now ≡ c.program
-  pub plans : map plan_of t.plans.now ≡ plans_of c.program
-  pub code : codes_in t.code.now ≡ c.code
-
-abbrev pub AreSized : List SizedTask → List Coded → Type 0
-AreSized [] [] = ⊤
-AreSized [] (c ∷ cs) = ⊥
-AreSized (t ∷ ts) [] = ⊥
-AreSized (t ∷ ts) (c ∷ cs) = IsSized t c × AreSized ts cs
-
 -- ---- parts
 
 -- those of task n
-abbrev pub sized_parts : Passes → ℕ → SizedTask → List PartSize
-sized_parts passes n t = parts_with passes n (sizes_of t.code.now) (map plan_of t.plans.now) (globals_in t.program.now) (stack_in t.program.now)
+abbrev pub sized_parts : Passes → ℕ → CodedTask → List PartSize
+sized_parts passes n t = parts_with passes n (sizes_of (items_of t.code)) (map plan_of (items_of t.plans)) (globals_in t.program) t.stack
 
 -- of the tasks from number n on
-abbrev pub sized_from : Passes → ℕ → List SizedTask → List PartSize
+abbrev pub sized_from : Passes → ℕ → List CodedTask → List PartSize
 sized_from passes n [] = []
 sized_from passes n (t ∷ ts) = sized_parts passes n t ++ sized_from passes (n + 1) ts
 
 -- of tasks and devices
-abbrev pub parts_in : Plant → List Device → List SizedTask → List PartSize
+abbrev pub parts_in : Plant → List Device → List CodedTask → List PartSize
 parts_in p devices tasks = sized_from (stub_passes p) 0 tasks ++ area_parts p.line 0 devices
 
 -- parts that may be placed
@@ -72,13 +49,13 @@ pub record MayHavePlaces (line : ℕ) (parts : List PartSize) : Type 0 where
 -- ---- what is asked of a task
 
 -- its parts are counted and have sizes in 32 bits
-pub record MayHaveParts (t : SizedTask) : Type 0 where
-  pub program : MayHavePlans t.program.now
-  pub codes : length t.code.now ≤ 256
-  pub small : AllByRecursion IsWordSize (sizes_of t.code.now)
-  pub marked : length t.plans.now ≤ 256
-  pub plans : AllByRecursion IsShortPlan (map plan_of t.plans.now)
-  pub globals : AllByRecursion IsShortGlobal (globals_in t.program.now)
+pub record MayHaveParts (t : CodedTask) : Type 0 where
+  pub program : MayHavePlans t.program
+  pub codes : length (items_of t.code) ≤ 256
+  pub small : AllByRecursion IsWordSize (sizes_of (items_of t.code))
+  pub marked : length (items_of t.plans) ≤ 256
+  pub plans : AllByRecursion IsShortPlan (map plan_of (items_of t.plans))
+  pub globals : AllByRecursion IsShortGlobal (globals_in t.program)
 
 -- the code of a well-formed program for some target, which keeps to the rules on frames and registers
 pub record IsCodeOf (p : ProgramText) (c : Coded) : Type 0 where

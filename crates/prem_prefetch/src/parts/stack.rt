@@ -1,15 +1,12 @@
 // The stack of a task.
-ghost use Rattle.std.specs.Prelude.{◌≡◌, ◌≤◌, IfOk, length, map, is_some, slice_index_or, []};
-ghost use Rattle.prem_list.specs.Sequence.{items_of};
+ghost use Rattle.std.specs.Prelude.{◌≡◌, map, is_some, slice_index_or, []};
 ghost use Rattle.prem_syntax.specs.SyntaxOf.{function_of};
 ghost use Rattle.prem_split.specs.Tables.{greatest};
-ghost use Rattle.prem_split.specs.PlansWith.{MayHavePlans, marks_of};
+ghost use Rattle.prem_split.specs.PlansWith.{AreFacts, MayHavePlans, marks_of};
 ghost use Rattle.prem_prefetch.specs.Parts.Parts.{most_marked, stack_in};
 
-use prem_analysis::marks::callee_table;
-use prem_split::{depths, frames, greatest, value_at};
+use prem_split::{FunctionFacts, greatest, value_at};
 use prem_tree::resolve::{Resolved, Routine};
-use std::alloc::{AllocError, Global};
 
 /// The greatest depth of the functions which one calls.
 fn called(depths: &[u32], table: &[Vec<usize>], f: usize) -> u32
@@ -44,14 +41,12 @@ fn most_marked(depths: &[u32], fs: &[Routine]) -> u32
 }
 
 /// The bytes of the stack: the frame of `job`, and the greatest depth of its callees and of the marked functions.
-pub fn stack_size(alloc: Global, r: &Resolved) -> Result<u64, AllocError>
-    requires { MayHavePlans r.now }
-    ensures { IfOk result (λ size. size ≡ stack_in r.now) }
+pub fn stack_size(r: &Resolved, facts: &FunctionFacts) -> u32
+    requires may { MayHavePlans r.now }
+    requires facts { AreFacts r.now facts.now }
+    ensures { result ≡ stack_in r.now }
 {
-    let fs = r.routines.items();
-    let frames = frames(alloc, fs)?;
-    let table = callee_table(alloc, fs)?;
-    let depths = depths(alloc, &frames, &table)?;
-    let below = called(&depths, &table, r.job).max(most_marked(&depths, fs));
-    Ok(u64::from(value_at(&frames, r.job)) + u64::from(below))
+    let marked = most_marked(&facts.depths, r.routines.items());
+    let below = called(&facts.depths, &facts.calls, r.job).max(marked);
+    value_at(&facts.frames, r.job) + below
 }

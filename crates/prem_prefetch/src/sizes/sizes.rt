@@ -5,43 +5,28 @@ ghost use Rattle.prem_plant.specs.Ranges.{IsPlant, IsDevice};
 ghost use Rattle.prem_layout.specs.Parts.{stub_passes};
 ghost use Rattle.prem_prefetch.specs.Sizes.Sizes.{sized_parts, sized_from, parts_in, MayHavePlaces, MayHaveParts};
 
-use crate::parts::{push_areas, push_task, stack_size};
-use prem_asm::{Piece, Sequence};
+use crate::parts::{push_areas, push_task};
+use crate::sizes::coded::CodedTask;
 use prem_plant::{Device, PartSize, Plant, TaskId};
-use prem_split::IntervalPlan;
-use prem_tree::resolve::Resolved;
 use std::alloc::{AllocError, Global};
 
-/// What is known of a task before its parts have places.
-#[derive(Clone, Copy)]
-pub struct SizedTask<'a, 'p> {
-    /// Its program with names resolved.
-    pub program: &'a Resolved<'p>,
-    /// The plans of its marked functions, in the order of the text.
-    pub plans: &'a [IntervalPlan],
-    /// The code of its functions, in the order of the text.
-    pub code: &'a [Sequence<Piece>],
-}
-
 /// Puts the parts of a task behind other parts.
-fn push_sized(
-    alloc: Global,
+fn push_coded(
     parts: &mut Vec<PartSize>,
     n: TaskId,
-    task: &SizedTask,
+    task: &CodedTask,
     plant: &Plant,
 ) -> Result<(), AllocError>
     requires { MayHaveParts task.now }
     ensures { OnOk result (parts.new.items ≡ parts.old.items ++ sized_parts (stub_passes plant.now) n task.now) }
 {
-    let stack = stack_size(alloc, task.program)?;
     push_task(
         parts,
         n,
-        task.code,
-        task.plans,
+        task.code.items(),
+        task.plans.items(),
         &task.program.globals,
-        stack as u32,
+        task.stack,
         plant,
     )
 }
@@ -50,7 +35,7 @@ fn push_sized(
 fn parts_of_tasks(
     alloc: Global,
     plant: &Plant,
-    tasks: &[SizedTask],
+    tasks: &[CodedTask],
 ) -> Result<Vec<PartSize>, AllocError>
     requires tasks { AllByRecursion MayHaveParts tasks.now }
     requires count { length tasks.now ≤ 16 }
@@ -59,7 +44,7 @@ fn parts_of_tasks(
     let mut parts = Vec::new(alloc);
     let mut n = 0u16;
     for task in tasks {
-        push_sized(alloc, &mut parts, n, task, plant)?;
+        push_coded(&mut parts, n, task, plant)?;
         n += 1;
     }
     Ok(parts)
@@ -71,7 +56,7 @@ pub fn set_parts(
     alloc: Global,
     plant: &Plant,
     devices: &[Device],
-    tasks: &[SizedTask],
+    tasks: &[CodedTask],
 ) -> Result<Vec<PartSize>, AllocError>
     requires tasks { AllByRecursion MayHaveParts tasks.now }
     requires count { length tasks.now ≤ 16 }

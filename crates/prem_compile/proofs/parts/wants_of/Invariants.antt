@@ -1,7 +1,7 @@
 use Rattle.std.specs.List.{AllByRecursion}
 use Rattle.std.proofs.Common.{◌≡◌, ◌++◌, ◌*◌, ◌≤◌, map, drop}
 use Rattle.prem_list.specs.Sequence.{items_of}
-use Rattle.prem_place.specs.Placing.CodedOf.{IsCodedTask, coded_in}
+use Rattle.prem_prefetch.specs.Sizes.CodedOf.{IsCodedTask, coded_in}
 use Rattle.prem_color.specs.Standing.{TasksStand}
 use Rattle.prem_color.specs.Wants.{wants_from}
 use Rattle.prem_color.specs.WantOf.{want_of}

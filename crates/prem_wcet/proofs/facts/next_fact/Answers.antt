@@ -60,13 +60,13 @@ fact_of-requires-clause-below c =
     (pieces_there t n c.items-code.result.now c.index-code-n.result c.items-pieces.result.now lt c.items-code.ensures c.index-code-n.is
     c.items-pieces.ensures) (λ i. (c.place.ensures i).0) c.in_ok-outline.ensures
     (memory_scene c.args.p.now t.places c.items-code.result.now c.deref-2.result.now c.stack_of.result c.deref-3.result.now) c.frame_at-base.result
-    (n == t.program.now.job) (ap (λ x. x ∷ []) c.stack_of.ensures)
+    (n == t.program.job) (ap (λ x. x ∷ []) c.stack_of.ensures)
 
 pub returns : goal.returns
 returns c =
     let t = c.args.t.now in
     let n = c.len-n.result in
-    let job = t.program.now.job in
+    let job = t.program.job in
     let faces = c.args.known.now.faces.items in
     let n_is : n ≡ length c.args.known.now.facts.items = c.len-n.ensures ∙ c.args.known.now.facts.ok.0 in
     let lt : n < length (items_of t.table.code) = omega (arith, n_is, c.requires.there) in
@@ -75,7 +75,7 @@ returns c =
     if_more c.fact_of.result
     (λ fact told. next_told c.args.p.now t faces c.deref-2.result.now c.args.known.now.facts.items c.deref-3.result.now c.items-code.result.now
     c.stack_of.result n c.place.result.0 r (pieces_of c.items-pieces.result.now) c.in_ok-outline.outline fact
-    n_is (item_there (items_of t.program.now.routines) n r (omega (arith, lt, routines_count c.args.p.now t c.requires.task))
+    n_is (item_there (items_of t.program.routines) n r (omega (arith, lt, routines_count c.args.p.now t c.requires.task))
     (c.index-routines-n.is ∙ ap (λ xs. get_or xs n r) c.items-routines.ensures))
     c.items-code.ensures c.deref-2.ensures.value c.deref-3.ensures.value (c.stack_of.ensures ∙ (λ i. stack_by t.places (base_is i) (n_is i == job))) (λ i. (c.place.ensures i).0)
     (pieces_there t n c.items-code.result.now c.index-code-n.result c.items-pieces.result.now lt c.items-code.ensures c.index-code-n.is c.items-pieces.ensures) c.in_ok-outline.ensures told)

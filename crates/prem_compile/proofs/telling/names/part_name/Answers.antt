@@ -1,7 +1,7 @@
 use Rattle.std.proofs.Common.{◌∙◌}
 use Rattle.prem_plant.specs.declared.layout.PartKind.TheVariants.{Start, Code, Stub, Global, Stack}
 use Rattle.prem_place.proofs.VerdictLemmas.Names.{name_then}
-use Rattle.prem_compile.specs.Telling.Named.{named_in}
+use Rattle.prem_prefetch.specs.Sizes.CodedOf.{coded_in}
 use Rattle.prem_compile.specs.Telling.There.{HasName}
 use Rattle.prem_compile.proofs.TellingLemmas.Naming.{all_at, among_within, among_of, named_at, named_of, there_by, named_by}
 use Rattle.prem_compile.proofs.telling.names.part_name.Goals as goal
@@ -31,13 +31,13 @@ bounds-tasks-task-in-Stack-2 c =
     (there_by c.args.devices.now c.args.tasks.now c.args.part.now c.from-task.result Stack c.from-task.ensures c.in-Stack.is c.requires.part)
 
 pub label_name-requires : goal.label_name-requires
-label_name-requires c = all_at HasName named_in c.args.tasks.now c.from-task.result c.index-tasks-task.result c.requires.tasks
+label_name-requires c = all_at HasName coded_in c.args.tasks.now c.from-task.result c.index-tasks-task.result c.requires.tasks
     (among_within c.args.tasks.now c.from-task.result Start
     (there_by c.args.devices.now c.args.tasks.now c.args.part.now c.from-task.result Start c.from-task.ensures c.in-Start.is c.requires.part))
 
 pub label_name-requires-in-Stack : goal.label_name-requires-in-Stack
 label_name-requires-in-Stack c =
-    all_at HasName named_in c.args.tasks.now c.from-task.result c.index-tasks-task-in-Stack.result c.requires.tasks
+    all_at HasName coded_in c.args.tasks.now c.from-task.result c.index-tasks-task-in-Stack.result c.requires.tasks
     (among_within c.args.tasks.now c.from-task.result Stack
     (there_by c.args.devices.now c.args.tasks.now c.args.part.now c.from-task.result Stack c.from-task.ensures c.in-Stack.is c.requires.part))
 

@@ -8,17 +8,17 @@ use Rattle.prem_compile.proofs.telling.names.routine_name.Goals as goal
 pub bounds-items-from : goal.bounds-items-from
 bounds-items-from c =
     let t = c.args.task.now in
-    routine_within (slice_index t.turns.now) (items_of t.program.now.routines) c.items.result.now c.args.f c.from.result c.requires c.from.ensures c.items.ensures
+    routine_within (slice_index t.turns.items) (items_of t.program.routines) c.items.result.now c.args.f c.from.result c.requires c.from.ensures c.items.ensures
 
 pub bounds-items-from-2 : goal.bounds-items-from-2
 bounds-items-from-2 c =
     let t = c.args.task.now in
-    routine_within (slice_index t.turns.now) (items_of t.program.now.routines) c.items.result.now c.args.f c.from.result c.requires c.from.ensures c.items.ensures
+    routine_within (slice_index t.turns.items) (items_of t.program.routines) c.items.result.now c.args.f c.from.result c.requires c.from.ensures c.items.ensures
 
 pub returns : goal.returns
 returns c =
     let t = c.args.task.now in
     name_then c.copy_name.result _ _ c.copy_name.ensures
     (ap (λ r. name_bytes r.text.now.name) (sym c.index-items-from.is)
-    ∙ routine_named (slice_index t.turns.now) (items_of t.program.now.routines)
+    ∙ routine_named (slice_index t.turns.items) (items_of t.program.routines)
     c.items.result.now c.args.f c.from.result c.index-items-from.result c.requires c.from.ensures c.items.ensures c.index-items-from.is)

@@ -3,7 +3,7 @@ use Rattle.std.specs.Vec.Iter.{into_iter_items}
 use Rattle.std.proofs.Common.{◌≡◌, ◌++◌, ◌+◌, ◌*◌, ◌≤◌, map, drop, length}
 use Rattle.prem_layout.specs.Placed.{placed_from}
 use Rattle.prem_place.specs.Placed.PlacedOf.{placed_of, IsPlacedTask}
-use Rattle.prem_place.specs.Placing.CodedOf.{coded_in, IsCodedTask}
+use Rattle.prem_prefetch.specs.Sizes.CodedOf.{coded_in, IsCodedTask}
 use Rattle.prem_place.specs.Placing.Standing.{TasksLie, stands_in}
 use Rattle.prem_place.proofs.placing.place.place_all.Given as goal
 

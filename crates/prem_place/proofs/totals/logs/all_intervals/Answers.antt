@@ -1,5 +1,8 @@
-use Rattle.std.proofs.Common.{map}
-use Rattle.prem_layout.specs.Counts.{intervals_of}
+use Rattle.std.specs.Prelude.{slice_index}
+use Rattle.std.proofs.Common.{map, ap, ◌∙◌}
+use Rattle.prem_tree.specs.Resolve.ResolvedOf.{resolved_of}
+use Rattle.prem_bounds.specs.Counts.Count.{clipped}
+use Rattle.prem_layout.specs.Counts.{intervals_of, marked_calls_of}
 use Rattle.prem_layout.specs.Rules.{total_of}
 use Rattle.prem_place.specs.Placed.PlacedOf.{coded_of}
 use Rattle.prem_place.proofs.TotalsLemmas.Totals.{total_turn, total_end, clipped_small, intervals_are}
@@ -10,7 +13,8 @@ loop-task-preserved c =
     record {
       rest = total_turn intervals_of c.args.tasks.now c.loop-task.task-index c.task-item.result c.loop-task.sum c.plus-sum.result c.plus-count.result
           c.times-in-loop-task.result _ c.loop-task-test.true c.task-item.is
-          (intervals_are (coded_of c.task-item.result).program c.in_ok-calls.calls c.times.result c.plus-count.result c.in_ok-calls.ensures
+          (intervals_are (coded_of c.task-item.result).program c.in_ok-calls.calls c.times.result c.plus-count.result
+          (c.in_ok-calls.ensures ∙ ap (λ ts. clipped (marked_calls_of (resolved_of (slice_index ts) c.task-item.result.program))) c.deref.ensures.value)
           c.times.ensures c.plus-count.ensures) c.times-in-loop-task.ensures c.plus-sum.ensures c.loop-task.invariant.rest;
       small = clipped_small c.plus-sum.result _ c.plus-sum.ensures;
     }

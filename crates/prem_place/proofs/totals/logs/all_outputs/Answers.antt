@@ -1,4 +1,7 @@
-use Rattle.std.proofs.Common.{map}
+use Rattle.std.specs.Prelude.{slice_index}
+use Rattle.std.proofs.Common.{map, ap, ◌∙◌}
+use Rattle.prem_tree.specs.Resolve.ResolvedOf.{resolved_of}
+use Rattle.prem_bounds.specs.Counts.Count.{clipped}
 use Rattle.prem_layout.specs.Counts.{outputs_of}
 use Rattle.prem_layout.specs.Rules.{total_of}
 use Rattle.prem_place.specs.Placed.PlacedOf.{coded_of}
@@ -9,7 +12,8 @@ pub loop-task-preserved : goal.loop-task-preserved
 loop-task-preserved c =
     record {
       rest = total_turn outputs_of c.args.tasks.now c.loop-task.task-index c.task-item.result c.loop-task.sum c.plus-sum.result c.in_ok-count.count
-          c.times.result _ c.loop-task-test.true c.task-item.is c.in_ok-count.ensures c.times.ensures c.plus-sum.ensures c.loop-task.invariant.rest;
+          c.times.result _ c.loop-task-test.true c.task-item.is
+          (c.in_ok-count.ensures ∙ ap (λ ts. clipped (outputs_of (resolved_of (slice_index ts) c.task-item.result.program))) c.deref.ensures.value) c.times.ensures c.plus-sum.ensures c.loop-task.invariant.rest;
       small = clipped_small c.plus-sum.result _ c.plus-sum.ensures;
     }
 

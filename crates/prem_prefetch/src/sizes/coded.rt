@@ -1,6 +1,5 @@
 // Tasks with their code.
-use prem_asm::Piece;
-use prem_list::Sequence;
+use prem_asm::{Piece, Sequence};
 use prem_plant::Label;
 use prem_split::IntervalPlan;
 use prem_tree::resolve::Resolved;
@@ -13,10 +12,14 @@ pub struct CodedTask<'a, 'p> {
     pub period: u32,
     /// How many jobs are released.
     pub jobs: u32,
-    pub program: &'a Resolved<'p>,
+    /// Its program with names resolved.
+    pub program: Resolved<'p>,
     /// The turns of its counting loops, in the order of the text.
-    pub turns: &'a [u32],
+    pub turns: Vec<u32>,
+    /// The plans of its marked functions, in the order of the text.
     pub plans: Sequence<IntervalPlan>,
+    /// The bytes of its stack.
+    pub stack: u32,
     /// The pieces of each function by number.
     pub code: Sequence<Sequence<Piece>>,
 }
