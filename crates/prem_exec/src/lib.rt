@@ -10,4 +10,4 @@ pub mod sources;
 
 pub use exec::exec_answer;
 pub use files::line_form;
-pub use run::{answer_under, run_image, stop_status};
+pub use run::{run_answer, run_image, stop_status};

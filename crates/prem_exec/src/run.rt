@@ -46,7 +46,7 @@ pub fn run_image<P: Policy>(
 }
 
 /// What is told of the run of an image of this policy up to a cycle, with its intervals and transfers where `times` says so.
-pub fn answer_under<P: Policy>(
+fn answer_under<P: Policy>(
     alloc: Global,
     image: &Image,
     input: &RunInput,

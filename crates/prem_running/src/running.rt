@@ -9,7 +9,7 @@ use crate::teller::{Teller, tell_files};
 use prem_answer::{Answer, Halt, Status};
 use prem_command::RunWords;
 use prem_compile::{Compiled, TaskSet};
-use prem_exec::answer_under;
+use prem_exec::run_answer as image_answer;
 use prem_gate::RunInput;
 use prem_io::Store;
 use prem_lru::Policy;
@@ -37,7 +37,7 @@ impl Teller for RunWords<'_> {
         compiled: &Compiled,
     ) -> Result<Answer, AllocError> {
         let limit = run_limit(self.cycles, compiled.limit);
-        let answer = answer_under::<P>(alloc, &compiled.image, input, self.intervals, limit)?;
+        let answer = image_answer(alloc, &compiled.image, input, self.intervals, limit)?;
         Ok(Answer {
             status: Status::Done,
             text: answer.text,
