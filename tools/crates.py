@@ -5,8 +5,8 @@
                               files cite and the line lacks; with --fix the lines are mended
     crates.py twice [LEAST]   definitions and lemmas that stand twice, alike but for their names, of LEAST characters (120) and more: the
                               lower crate first, and whether the other one can cite it
-    crates.py modules [--fix] which lines of docs/ARCHITECTURE.md on crates and modules aren't the first paragraph of their sources, and the
-                              crates that have no line; with --fix the lines are written anew
+    crates.py modules [--fix] which lines of docs/ARCHITECTURE.md on crates and modules aren't the first paragraph of their sources, which
+                              of these modules are gone, and the crates that have no line; with --fix the lines are written anew
     crates.py preludes NAME.. has the files of these crates name what they cite of other crates through their own specs/Prelude and
                               proofs/Prelude, as far as that makes them shorter, and drops what no file names any more
     crates.py programs        what a program of the list tools/programs lacks: its crates, its script, its stored run, its place in the
@@ -184,6 +184,8 @@ def modules(is_fixed):
         head = ITEM.match(item)
         if head:
             names = [*names[: len(head.group(1)) // 2], head.group(2)]
+            if read(source_of(names)) is None:
+                print(f"{'::'.join(names)}: is no module")
             told, stands = first_paragraph(source_of(names)), " ".join(item[head.end() :].split())
             told = told and told.removeprefix(f"{names[-1]}: ")
             if told and told != stands:

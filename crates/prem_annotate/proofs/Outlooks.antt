@@ -1,18 +1,18 @@
 -- What is found of functions, from the last to the first.
 use Rattle.prem_annotate.proofs.Prelude.{plain_routine, AllRanged, outlook_of, outlook, outlook_with, Outlook, slot_of, row_of, with_arguments, with_slot, with_slots, empty_row, passed}
-use Rattle.prem_annotate.proofs.Prelude.{Slot as SlotTree, with_parameters, ranged_routine, ranged_routines, calls_of, calls_of_all, known_parameter, Ranged, Routine, Parameter}
+use Rattle.prem_annotate.proofs.Prelude.{ParameterRange as SlotTree, with_parameters, ranged_routine, ranged_routines, calls_of, calls_of_all, known_parameter, Ranged, Routine, Parameter}
 use Rattle.prem_annotate.proofs.Prelude.{parameter_of, function_of, Param, ◌≡◌, ℕ, zero, suc, ◌+◌, ◌<◌, ◌≤◌, drop, subst, List, [], ◌∷◌, ◌++◌, length, map, get_or, refl, ap, sym, ◌∙◌, arith}
 use Rattle.prem_annotate.proofs.Prelude.{Some, append-nil, append_assoc, drop_more, drop_all, length-map, reverse-append, Global, slice_get, ◌-◌, Vec}
 use Rattle.prem_annotate.proofs.Sights.{passed-append}
 use Rattle.prem_annotate.proofs.Slots.{slots_in, slots_of, arguments_added, no_rows, row_at, slots_range, slots_long}
-use Rattle.prem_annotate.specs.Ranges.Slots.{Slot}
+use Rattle.prem_annotate.specs.Ranges.Slots.{ParameterRange}
 use Rattle.prem_annotate.specs.Seeing.Sight.{Argument}
 use Rattle.prem_annotate.specs.declared.ranges.outlook.Outlook.{Outlook as OutlookTree}
 use Rattle.prem_tree.specs.declared.resolve.resolved.Routine.{Routine as RoutineTree}
 use mathlib.Core.List.{reverse}
 
 -- the functions from number n on are looked at
-pub record Inferring (fs : List Routine) (n : ℕ) (rows : List (List Slot)) (found : List Outlook) : Type 0 where
+pub record Inferring (fs : List Routine) (n : ℕ) (rows : List (List ParameterRange)) (found : List Outlook) : Type 0 where
   pub rows_are : rows ≡ slots_of (passed (calls_of_all (ranged_routines n (drop n fs)))) 0 fs
   pub found_are : found ≡ map outlook (ranged_routines n (drop n fs))
 
@@ -20,7 +20,7 @@ pub some_is : {A : Type 0} (a b : A) → Some a ≡ Some b → a ≡ b
 some_is a b e = cc
 
 -- the function before these
-pub looked_before : (fs : List Routine) (m : ℕ) (f : Routine) (rows rows' : List (List Slot)) (found : List Outlook) (row : List Slot) (o : Outlook) →
+pub looked_before : (fs : List Routine) (m : ℕ) (f : Routine) (rows rows' : List (List ParameterRange)) (found : List Outlook) (row : List ParameterRange) (o : Outlook) →
     drop m fs ≡ f ∷ drop (m + 1) fs → slice_get fs m ≡ Some f → Inferring fs (m + 1) rows found → slice_get rows m ≡ Some row → o ≡ outlook_with row f → rows' ≡ with_arguments o.sight.arguments rows →
     Inferring fs m rows' (o ∷ found)
 looked_before fs m f rows rows' found row o all there behind row_is o_is new_rows =
@@ -104,7 +104,7 @@ slots_next g row ps i s p done done' whole in_row in_ps is_s is_p left new =
     ap (λ l. l ++ rest) new ∙ append_assoc done (g (with_slot (slot_of s) (parameter_of p)) ∷ []) rest
     ∙ sym (λ j. done ++ map g (with_slots (map slot_of (all_row j)) (map parameter_of (all_ps j)))) ∙ left
 
-no_parameters : (ss : List Slot) → with_slots ss [] ≡ []
+no_parameters : (ss : List ParameterRange) → with_slots ss [] ≡ []
 no_parameters [] = refl
 no_parameters (s ∷ ss) = refl
 

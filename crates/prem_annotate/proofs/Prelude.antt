@@ -16,7 +16,7 @@ pub use Rattle.prem_annotate.specs.Rules.First.{Tellable, TellableIf, breaches_a
 pub use Rattle.prem_annotate.specs.Seeing.Sight.{Sight, argument, argument_of, both, sight_of, touch_of, touched}
 pub use Rattle.prem_annotate.specs.Seeing.Walk.{arguments_from, begun, behind, looked, passed, seen_with}
 pub use Rattle.prem_annotate.specs.Writing.Text.{annotated_text, orders_at, orders_from, wanted}
-pub use Rattle.prem_annotate.specs.declared.ranges.slots.Slot.{Slot}
+pub use Rattle.prem_annotate.specs.declared.ranges.slots.ParameterRange.{ParameterRange}
 pub use Rattle.prem_annotate.specs.declared.seeing.sight.Argument.{Argument}
 pub use Rattle.prem_annotating.proofs.Calls.{new_ranges_hold}
 pub use Rattle.prem_annotating.specs.Annotated.{all_annotated, annotated_mark, marked_routines, texts_of}
@@ -24,7 +24,7 @@ unfoldable pub use Rattle.prem_annotating.specs.Annotated.{first_other}
 pub use Rattle.prem_annotating.specs.Editing.Orders.{Wanted, all_orders, annotations, edited_text, function_orders, order_of, text_with, unplaced_wanted}
 pub use Rattle.prem_annotating.specs.Inferred.{argument_at, given_by, if_narrower, join_all, ranged_parameters, ranged_routine, ranged_routines, stated_or, with_parameters}
 pub use Rattle.prem_annotating.specs.Reached.{elements_if, elements_in, regions_from, regions_reached}
-pub use Rattle.prem_annotating.specs.Seen.{KnownCall, Touch, calls_in, calls_of, calls_of_all, known_call, touch, touched_by, touched_by_all, touched_by_locals, touched_by_result}
+pub use Rattle.prem_annotating.specs.Seen.{KnownCall, GlobalAccess, calls_in, calls_of, calls_of_all, known_call, touch, touched_by, touched_by_all, touched_by_locals, touched_by_result}
 pub use Rattle.prem_annotating.specs.Seen.{touched_in, touches_of}
 pub use Rattle.prem_list.specs.Sequence.{items_of}
 pub use Rattle.prem_ranges.proofs.Alike.{SameSite, both_same, in_routine-alike}

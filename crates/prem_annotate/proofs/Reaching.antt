@@ -1,6 +1,6 @@
 -- Regions by what is found of functions are those that are reached.
 use Rattle.prem_annotate.proofs.Prelude.{outlook, at_number, elements_of as elements_in_memory, widened, with_touch, with_touches, with_touches_if, with_members, regions_around, no_elements}
-use Rattle.prem_annotate.proofs.Prelude.{regions_found, join_all, elements_if, elements_in, regions_from, regions_reached, touches_of, Touch, is_in, callee_table, reach_set, Routine}
+use Rattle.prem_annotate.proofs.Prelude.{regions_found, join_all, elements_if, elements_in, regions_from, regions_reached, touches_of, GlobalAccess, is_in, callee_table, reach_set, Routine}
 use Rattle.prem_annotate.proofs.Prelude.{RegionText, GlobalVariable, Place, Span, ◌≡◌, ℕ, zero, suc, ◌+◌, ◌<◌, ◌≤◌, drop, Bool, true, false, cond, List, [], ◌∷◌, ◌++◌, length, map, refl, ap}
 use Rattle.prem_annotate.proofs.Prelude.{sym, ◌∙◌, arith, Option, None, nat_tests, append-nil, append_assoc, drop_all, flat_map, ◌==◌}
 use Rattle.prem_analysis.specs.declared.ranging.range.Range.{Range}
@@ -11,20 +11,20 @@ abbrev joins : (ℕ → List Span) → ℕ → List GlobalVariable → List (Opt
 joins spans g [] = []
 joins spans g (v ∷ vs) = join_all (spans g) ∷ joins spans (g + 1) vs
 
-abbrev with_one : Touch → (ℕ → List Span) → ℕ → List Span
+abbrev with_one : GlobalAccess → (ℕ → List Span) → ℕ → List Span
 with_one t spans g = elements_of g t ++ spans g
 
 abbrev join_if : Bool → Span → List Span → Option Span
 join_if b r rs = join_all (cond b (r ∷ []) [] ++ rs)
 
-joined_past : (t : Touch) (spans : ℕ → List Span) (g : ℕ) (vs : List GlobalVariable) → t.global < g → joins (with_one t spans) g vs ≡ joins spans g vs
+joined_past : (t : GlobalAccess) (spans : ℕ → List Span) (g : ℕ) (vs : List GlobalVariable) → t.global < g → joins (with_one t spans) g vs ≡ joins spans g vs
 joined_past t spans g [] lt = refl
 joined_past t spans g (v ∷ vs) lt =
     let other : (t.global == g) ≡ false = grind (arith, nat_tests) in
     let rest = joined_past t spans (g + 1) vs (omega arith) in
     λ i. join_if (other i) t.elements (spans g) ∷ rest i
 
-joined_hit : (t : Touch) (spans : ℕ → List Span) (g k : ℕ) (vs : List GlobalVariable) → t.global ≡ g + k → at_number k (widened t.elements) (joins spans g vs) ≡ joins (with_one t spans) g vs
+joined_hit : (t : GlobalAccess) (spans : ℕ → List Span) (g k : ℕ) (vs : List GlobalVariable) → t.global ≡ g + k → at_number k (widened t.elements) (joins spans g vs) ≡ joins (with_one t spans) g vs
 joined_hit t spans g zero [] e = refl
 joined_hit t spans g (suc k) [] e = refl
 joined_hit t spans g zero (v ∷ vs) e =
@@ -36,7 +36,7 @@ joined_hit t spans g (suc k) (v ∷ vs) e =
     let rest = joined_hit t spans (g + 1) k vs (omega arith) in
     λ i. join_if (sym other i) t.elements (spans g) ∷ rest i
 
-touches_joined : (ts : List Touch) (spans : ℕ → List Span) (gs : List GlobalVariable) → with_touches ts (joins spans 0 gs) ≡ joins (λ g. flat_map (elements_of g) ts ++ spans g) 0 gs
+touches_joined : (ts : List GlobalAccess) (spans : ℕ → List Span) (gs : List GlobalVariable) → with_touches ts (joins spans 0 gs) ≡ joins (λ g. flat_map (elements_of g) ts ++ spans g) 0 gs
 touches_joined [] spans gs = refl
 touches_joined (t ∷ ts) spans gs =
     let behind : ℕ → List Span = λ g. flat_map (elements_of g) ts ++ spans g in

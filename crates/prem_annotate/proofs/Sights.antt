@@ -1,6 +1,6 @@
 -- What is seen of expressions, and of steps one behind the other.
 use Rattle.prem_annotate.proofs.Prelude.{after-step, plain_before, plain_row, plain, plain_list, argument, Sight, touched, both, arguments_from, passed, behind, looked, touch, touched_by}
-use Rattle.prem_annotate.proofs.Prelude.{touched_by_all, touched_in, KnownCall, known_call, calls_in, Touch, loop_end, in_counting, in_body, behind_loop, in_while, behind_call, after}
+use Rattle.prem_annotate.proofs.Prelude.{touched_by_all, touched_in, KnownCall, known_call, calls_in, GlobalAccess, loop_end, in_counting, in_body, behind_loop, in_while, behind_call, after}
 use Rattle.prem_annotate.proofs.Prelude.{Environment, at_local, any_again, assigned, joined, range_of, refined, Term, operator, Steps, Done, SetLocal, SetScalar, SetElement, Output, Input}
 use Rattle.prem_annotate.proofs.Prelude.{If, For, While, Call, Place, term_of, Step, Row_of-Step, end_of-Step, more_of-Step, exactly, BinOp, Kind, ◌≡◌, ℕ, ◌+◌, ◌<◌, ◌≤◌, Bool, true, false}
 use Rattle.prem_annotate.proofs.Prelude.{List, [], ◌∷◌, ◌++◌, length, map, drop, get_or, refl, ap, sym, ◌∙◌, subst, None, Some, append-nil, append_assoc, drop_more, drop_all, pos}
@@ -13,10 +13,10 @@ use Rattle.prem_tree.specs.declared.resolve.resolved.Step.TheVariants.{Input as 
 use Rattle.prem_tree.specs.declared.resolve.resolved.Term.{Term as TermTree}
 use Rattle.prem_word.specs.declared.kind.BinOp.TheVariants.{AndAlso as AndAlsoOp, OrElse as OrElseOp}
 
-abbrev pub sight : List Touch → List Argument → Sight
+abbrev pub sight : List GlobalAccess → List Argument → Sight
 sight ts as_ = record { touches = ts; arguments = as_ }
 
-pub same_sight : (ts us : List Touch) (as_ bs : List Argument) → ts ≡ us → as_ ≡ bs → sight ts as_ ≡ sight us bs
+pub same_sight : (ts us : List GlobalAccess) (as_ bs : List Argument) → ts ≡ us → as_ ≡ bs → sight ts as_ ≡ sight us bs
 same_sight ts us as_ bs one two = ap (λ x. sight x as_) one ∙ ap (sight us) two
 
 -- ---- expressions
@@ -24,7 +24,7 @@ same_sight ts us as_ bs one two = ap (λ x. sight x as_) one ∙ ap (sight us) t
 pub touched_none : (s : Sight) → s ≡ touched [] s
 touched_none s = same_sight _ _ _ _ (sym (append-nil s.touches)) refl
 
-pub touched_more : (xs ys : List Touch) (s : Sight) → touched ys (touched xs s) ≡ touched (xs ++ ys) s
+pub touched_more : (xs ys : List GlobalAccess) (s : Sight) → touched ys (touched xs s) ≡ touched (xs ++ ys) s
 touched_more xs ys s = same_sight _ _ _ _ (append_assoc s.touches xs ys) refl
 
 pub touched_some : (env : Environment) (at : Place) (op : BinOp) (k : Kind) (l r : Term) (b : Bool) → shortcut_of op ≡ Some b →
@@ -42,16 +42,16 @@ touched_operator env at op k l r is = refl
 
 -- ---- steps without steps in them
 
-pub looked_one : (a : List Touch) (s : Sight) → touched a s ≡ looked a s
+pub looked_one : (a : List GlobalAccess) (s : Sight) → touched a s ≡ looked a s
 looked_one a s = same_sight _ _ _ _ (ap (λ l. s.touches ++ l) (sym (append-nil a))) (sym (append-nil s.arguments))
 
-pub looked_two : (t : Touch) (a : List Touch) (s : Sight) → touched a (touched (t ∷ []) s) ≡ looked (t ∷ a) s
+pub looked_two : (t : GlobalAccess) (a : List GlobalAccess) (s : Sight) → touched a (touched (t ∷ []) s) ≡ looked (t ∷ a) s
 looked_two t a s = touched_more (t ∷ []) a s ∙ looked_one (t ∷ a) s
 
-pub looked_three : (t : Touch) (a b : List Touch) (s : Sight) → touched b (touched a (touched (t ∷ []) s)) ≡ looked (t ∷ a ++ b) s
+pub looked_three : (t : GlobalAccess) (a b : List GlobalAccess) (s : Sight) → touched b (touched a (touched (t ∷ []) s)) ≡ looked (t ∷ a ++ b) s
 looked_three t a b s = ap (touched b) (touched_more (t ∷ []) a s) ∙ touched_more (t ∷ a) b s ∙ looked_one (t ∷ a ++ b) s
 
-pub called_is : (ts : List Touch) (as_ : List Argument) (s : Sight) → both ts as_ s ≡ called ts as_ s
+pub called_is : (ts : List GlobalAccess) (as_ : List Argument) (s : Sight) → both ts as_ s ≡ called ts as_ s
 called_is ts as_ s = same_sight _ _ _ _ (ap (λ l. s.touches ++ l) (sym (append-nil ts))) (ap (λ l. s.arguments ++ l) (sym (append-nil as_)))
 
 -- ---- arguments: what is left gives the whole

@@ -3,7 +3,7 @@ use Rattle.prem_annotate.proofs.Prelude.{slot, given, at_number, with_argument, 
 use Rattle.prem_annotate.proofs.Prelude.{Argument as ArgumentTree, join_all, argument_at, given_by, if_narrower, stated_or, ranged_parameters, KnownCall, Environment, range_of, promoted}
 use Rattle.prem_annotate.proofs.Prelude.{Term, Routine, Parameter, Span, converted, Kind, ◌≡◌, ℕ, zero, suc, ◌+◌, ◌<◌, ◌≤◌, Bool, true, false, cond, List, [], ◌∷◌, ◌++◌, length, map, drop}
 use Rattle.prem_annotate.proofs.Prelude.{get_or, set, refl, ap, sym, ◌∙◌, arith, Some, nat_tests, drop_more, ◌==◌, ◌&&◌, ◌-◌, slice_get}
-use Rattle.prem_annotate.specs.Ranges.Slots.{Slot}
+use Rattle.prem_annotate.specs.Ranges.Slots.{ParameterRange}
 use Rattle.prem_annotate.specs.Seeing.Sight.{Argument}
 use Rattle.prem_annotating.specs.Inferred.{given as given_in}
 
@@ -21,11 +21,11 @@ abbrev pub given_to : List Argument → ℕ → ℕ → Kind → List Span
 given_to [] f k kind = []
 given_to (a ∷ as_) f k kind = given_if (is_for a f k) kind a.range (given_to as_ f k kind)
 
-abbrev pub slots_in : List Argument → ℕ → ℕ → List Parameter → List Slot
+abbrev pub slots_in : List Argument → ℕ → ℕ → List Parameter → List ParameterRange
 slots_in as_ f k [] = []
 slots_in as_ f k (p ∷ ps) = slot (promoted p.ty) (join_all (given_to as_ f k (promoted p.ty))) ∷ slots_in as_ f (k + 1) ps
 
-abbrev pub slots_of : List Argument → ℕ → List Routine → List (List Slot)
+abbrev pub slots_of : List Argument → ℕ → List Routine → List (List ParameterRange)
 slots_of as_ n [] = []
 slots_of as_ n (f ∷ fs) = slots_in as_ n 0 f.text.params ∷ slots_of as_ (n + 1) fs
 
@@ -44,7 +44,7 @@ other_parameter a f k is = ap (λ b. (a.callee == f) && b) is ∙ and_false (a.c
 this_one : (a : Argument) (f k : ℕ) → (a.callee == f) ≡ true → (a.parameter == k) ≡ true → is_for a f k ≡ true
 this_one a f k one two = ap (λ b. b && (a.parameter == k)) one ∙ two
 
-abbrev slot_if : Bool → Kind → Span → List Span → Slot
+abbrev slot_if : Bool → Kind → Span → List Span → ParameterRange
 slot_if b kind r rest = slot kind (join_all (given_if b kind r rest))
 
 row_past : (a : Argument) (as_ : List Argument) (f k : ℕ) (ps : List Parameter) → a.parameter < k → slots_in (a ∷ as_) f k ps ≡ slots_in as_ f k ps
@@ -193,7 +193,7 @@ drop_before xs n x some within is =
     let e : n - 1 + 1 ≡ n = omega arith in
     drop_more xs (n - 1) x (omega arith) ∙ (λ i. sym is i ∷ drop (e i) xs)
 
-pub arguments_before : (as_ : List ArgumentTree) (n : ℕ) (a : ArgumentTree) (rows rows' start : List (List Slot)) → 0 < n → n ≤ length as_ → a ≡ get_or as_ (n - 1) a →
+pub arguments_before : (as_ : List ArgumentTree) (n : ℕ) (a : ArgumentTree) (rows rows' start : List (List ParameterRange)) → 0 < n → n ≤ length as_ → a ≡ get_or as_ (n - 1) a →
     rows ≡ with_arguments (map argument_of (drop n as_)) start → rows' ≡ with_argument (argument_of a) rows → rows' ≡ with_arguments (map argument_of (drop (n - 1) as_)) start
 arguments_before as_ n a rows rows' start some within is old new =
     new ∙ ap (with_argument (argument_of a)) old ∙ ap (λ (l : List ArgumentTree). with_arguments (map argument_of l) start) (sym (drop_before as_ n a some within is))

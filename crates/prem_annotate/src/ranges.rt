@@ -6,4 +6,4 @@ mod slots;
 
 pub use inferring::infer;
 pub use outlook::{Outlook, known_parameters, regard};
-pub use slots::{Slot, add_all, empty_rows, join};
+pub use slots::{ParameterRange, add_all, empty_rows, least_around};

@@ -8,5 +8,5 @@ mod steps;
 
 pub use expression::look;
 pub use routine::{known_local, see_routine};
-pub use sight::{Argument, Sight, Touch};
+pub use sight::{Argument, GlobalAccess, Sight};
 pub use steps::walk;

@@ -18,7 +18,7 @@ use Rattle.prem_ranges.specs.After.{loop_end, in_counting, in_body, behind_loop,
 use Rattle.prem_ranges.specs.RangesKept.{resolved}
 use Rattle.prem_text.specs.Grammar.Reader.{nowhere}
 use Rattle.prem_text.specs.Canonical.Unplaced.{unplaced_region, unplaced_mark, unplaced_parameter, unplaced_local, unplaced_global, unplaced_function, unplaced}
-use Rattle.prem_annotating.specs.Seen.{Touch, touch, touched_by, touched_by_all, touched_in, touched_by_locals, touched_by_result, touches_of, KnownCall, known_call, calls_in, calls_of, calls_of_all}
+use Rattle.prem_annotating.specs.Seen.{GlobalAccess, touch, touched_by, touched_by_all, touched_in, touched_by_locals, touched_by_result, touches_of, KnownCall, known_call, calls_in, calls_of, calls_of_all}
 use Rattle.prem_annotating.specs.Inferred.{join_all, argument_at, given, if_narrower, stated_or, ranged_parameters, with_parameters, ranged_before, ranged_routines}
 use Rattle.prem_annotating.specs.Reached.{elements_of, elements_if, elements_in, region_of, regions_from, regions_reached}
 use Rattle.prem_annotating.specs.Annotated.{annotated_mark, marked_routines, with_texts, texts_of, all_annotated, annotated}
@@ -28,14 +28,14 @@ use Rattle.prem_annotate_answer.proofs.UnplacedCode.{table_same}
 
 -- ---- accesses
 
-abbrev unplaced_touch : Touch → Touch
+abbrev unplaced_touch : GlobalAccess → GlobalAccess
 unplaced_touch t = record { at = nowhere; global = t.global; elements = t.elements }
 
 -- two lists, one behind the other
-both : (a b a' b' : List Touch) → a' ≡ map unplaced_touch a → b' ≡ map unplaced_touch b → a' ++ b' ≡ map unplaced_touch (a ++ b)
+both : (a b a' b' : List GlobalAccess) → a' ≡ map unplaced_touch a → b' ≡ map unplaced_touch b → a' ++ b' ≡ map unplaced_touch (a ++ b)
 both a b a' b' one two = (λ i. one i ++ two i) ∙ sym (map-append unplaced_touch a b)
 
-front : (t : Touch) (a a' : List Touch) → a' ≡ map unplaced_touch a → unplaced_touch t ∷ a' ≡ map unplaced_touch (t ∷ a)
+front : (t : GlobalAccess) (a a' : List GlobalAccess) → a' ≡ map unplaced_touch a → unplaced_touch t ∷ a' ≡ map unplaced_touch (t ∷ a)
 front t a a' e = ap (λ ts. unplaced_touch t ∷ ts) e
 
 by_same : (env : Environment) (e : Term) → touched_by env (unplaced_term e) ≡ map unplaced_touch (touched_by env e)
@@ -133,7 +133,7 @@ touches_same f =
 
 -- ---- regions
 
-elements_bare : (g : ℕ) (ts : List Touch) → flat_map (elements_of g) (map unplaced_touch ts) ≡ flat_map (elements_of g) ts
+elements_bare : (g : ℕ) (ts : List GlobalAccess) → flat_map (elements_of g) (map unplaced_touch ts) ≡ flat_map (elements_of g) ts
 elements_bare g [] = refl
 elements_bare g (t ∷ ts) = ap (λ l. elements_of g t ++ l) (elements_bare g ts)
 

@@ -30,7 +30,7 @@ fn text_named<'a>(tasks: &'a [TaskText], name: &str) -> Option<&'a [u8]>
 }
 
 /// The answer by an annotated set.
-fn told(alloc: Global, tasks: &[TaskText], name: &str) -> Result<Answer, AllocError>
+fn annotated_answer(alloc: Global, tasks: &[TaskText], name: &str) -> Result<Answer, AllocError>
     ensures { IfOk result (λ a. reply_of a ≡ text_reply name.now (text_named name.now (map task_of tasks.now))) }
 {
     match text_named(tasks, name) {
@@ -49,7 +49,7 @@ fn judged(alloc: Global, set: &TaskSet, name: &str) -> Result<Answer, Halt>
     ensures unread { IsErrOf result Halt.ReadFault → ⊥ }
 {
     match annotate_set(alloc, set) {
-        Ok(new) => Ok(told(alloc, new.tasks(), name)?),
+        Ok(new) => Ok(annotated_answer(alloc, new.tasks(), name)?),
         Err(Stop::Refused(refusal)) => Ok(refused(alloc, set.tasks(), &refusal)?),
         Err(Stop::OutOfMemory) => Err(Halt::OutOfMemory),
     }

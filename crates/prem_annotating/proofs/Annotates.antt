@@ -3,7 +3,7 @@ use Rattle.prem_annotating.proofs.Prelude.{annotated_mark, marked_routines, text
 use Rattle.prem_annotating.proofs.Prelude.{annotations, all_orders, edited_text, text_with, Order, leave, put, mode_of, edited, stated_or, inferred, ranged_parameter, ranged_parameters}
 use Rattle.prem_annotating.proofs.Prelude.{ranged_routines, Each, range_phrase, AnnotatedFunction, AnnotatedItems, no_items, a_global, a_function, IsSaidRange, IsSaidMark, CanBeSaid}
 use Rattle.prem_annotating.proofs.Prelude.{AnnotatedTextsAreThere, TextsAreAnnotated, Piece, a_token, text_of, lexemes_in, AreDivided, AreGaps, range_pieces, EndsInToken, Edited, with_range}
-use Rattle.prem_annotating.proofs.Prelude.{regions_reached, KnownCall, calls_of_all, Copying, Spot, Elsewhere, BehindName, InParameters, resolved, promoted, resolve_items, functions_of}
+use Rattle.prem_annotating.proofs.Prelude.{regions_reached, KnownCall, calls_of_all, Copying, TokenPlace, Elsewhere, BehindName, InParameters, resolved, promoted, resolve_items, functions_of}
 use Rattle.prem_annotating.proofs.Prelude.{loops_within, Routine, unlimited, Text, Parameter, MarkText, GlobalVariable, FunctionText, global_item, function_item, ProgramText, complete}
 use Rattle.prem_annotating.proofs.Prelude.{text_read, range_lexemes, lexemes_of, unplaced_parameter, unplaced_mark, IsRow, void_type, type_of, Declaration, IsDeclaration, declaration_tokens}
 use Rattle.prem_annotating.proofs.Prelude.{MarkPhrase, IsMark, mark_tokens, mark_tree, RangePhrase, IsRange, range_tokens, range_tree, ParameterPhrase, IsParameter, parameter_tokens}
@@ -31,11 +31,11 @@ use Rattle.std.proofs.Common.{ℤ}
 use Rattle.std.proofs.lemmas.List.{append_assoc, append-nil}
 
 -- pieces that stay
-itself : (s s' : Spot) (os : List Order) (ps : List Piece) (ls : List Lexeme) → lexemes_in ps ≡ ls → mode_of s ≡ Copying → Stays s ls s' → EditedTo s os ps ls s' os
+itself : (s s' : TokenPlace) (os : List Order) (ps : List Piece) (ls : List Lexeme) → lexemes_in ps ≡ ls → mode_of s ≡ Copying → Stays s ls s' → EditedTo s os ps ls s' os
 itself s s' os ps ls e mode stays = record { new = ps; edited = edited_itself ps; lexemes = e; goes = stays_go s s' os ps mode (subst (λ l. Stays s l s') (sym e) stays) }
 
 -- edits of two parts
-both_edited : (s s1 s2 : Spot) (o o1 o2 : List Order) (a b ps : List Piece) (xs ys : List Seen) → a ++ b ≡ ps → EditedTo s o a (lexemes_of xs) s1 o1 →
+both_edited : (s s1 s2 : TokenPlace) (o o1 o2 : List Order) (a b ps : List Piece) (xs ys : List Seen) → a ++ b ≡ ps → EditedTo s o a (lexemes_of xs) s1 o1 →
     EditedTo s1 o1 b (lexemes_of ys) s2 o2 → EditedTo s o ps (lexemes_of (xs ++ ys)) s2 o2
 both_edited s s1 s2 o o1 o2 a b ps xs ys parts one two = record {
   new = one.new ++ two.new;

@@ -1,5 +1,5 @@
 -- Each region of the annotated program is one of a global.
-use Rattle.prem_annotating.proofs.Prelude.{all_ranged, other_breaches, first_other, RegionsFit, Each, elements_in, element_number, Touch, touch, touched_by, touched_by_all, touched_in}
+use Rattle.prem_annotating.proofs.Prelude.{all_ranged, other_breaches, first_other, RegionsFit, Each, elements_in, element_number, GlobalAccess, touch, touched_by, touched_by_all, touched_in}
 use Rattle.prem_annotating.proofs.Prelude.{touched_by_locals, touched_by_result, touches_of, none_left, none_right, unbroken, unbroken_not, is_at_most, is_not_below, none_first}
 use Rattle.prem_annotating.proofs.Prelude.{kinds-at_local, kinds-loosened, kinds-joined, kinds-refined, ranged_local, ranged_any, ranged_loosened, ranged_joined, term_kept, ranged_refined}
 use Rattle.prem_annotating.proofs.Prelude.{LoopFits, body_kept, behind_kept, ranged_counting, ranged_call, ranged_declared, kinds-after, kinds-behind_call, kinds-in_body}
@@ -23,7 +23,7 @@ use Rattle.prem_word.specs.Ranges.{IsRange}
 
 -- ---- accesses
 
-record Inside (gs : List GlobalVariable) (t : Touch) : Type 0 where
+record Inside (gs : List GlobalVariable) (t : GlobalAccess) : Type 0 where
   ordered : t.elements.lo ≤ℤ t.elements.hi
   below : t.elements.hi ≤ℤ (pos (length_of (slice_get gs t.global)) -ℤ pos 1)
 

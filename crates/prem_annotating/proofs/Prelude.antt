@@ -11,7 +11,7 @@ pub use Rattle.prem_annotating.specs.Editing.Standing.{advanced, behind_byte, be
 pub use Rattle.prem_annotating.specs.Editing.Walk.{Marked, Order, Step, at_byte, at_close, at_literal, at_name, at_token, begins, behind, behind_close, behind_name, behind_type, edited}
 pub use Rattle.prem_annotating.specs.Editing.Walk.{elsewhere, first_if, first_order, gone, in_mark, in_parameters, in_range, is_close, is_open, is_predictable, is_range, is_type, kept}
 pub use Rattle.prem_annotating.specs.Editing.Walk.{leave, marked, mode_of, put, put_for, rest_if, same_place, skipped, tokens_behind, type_or, walked}
-unfoldable pub use Rattle.prem_annotating.specs.Editing.Walk.{step}
+pub use Rattle.prem_annotating.specs.Editing.Walk.{step}
 pub use Rattle.prem_annotating.specs.Inferred.{argument_at, given, given_by, if_narrower, inferred, join_all, join_with, ranged_before, ranged_parameter, ranged_parameters, ranged_routine}
 pub use Rattle.prem_annotating.specs.Inferred.{ranged_routines, stated_or, with_parameters}
 pub use Rattle.prem_annotating.specs.Laws.{AnnotatedStaysInRange, HasRegion, IsLeast, IsOfGlobal, NewRangesHold, RangesAreInferred, RangesAreLeast, RangesFit, RegionsAreLeast, RegionsFit}
@@ -23,12 +23,12 @@ pub use Rattle.prem_annotating.specs.Pieces.{AreDivided, AreGaps, AreRegionWords
 pub use Rattle.prem_annotating.specs.Pieces.{RangeMayBePut, RegionsMayBePut, a_token, all_edited, between, blank, bytes_of, constant_pieces, kept_piece, lexemes_in, mark_piece, range_pieces}
 pub use Rattle.prem_annotating.specs.Pieces.{region_pieces, regions_pieces, said, text_of, with_length, with_range, with_regions}
 pub use Rattle.prem_annotating.specs.Reached.{element_number, elements_if, elements_in, elements_of, region_of, regions_from, regions_reached}
-pub use Rattle.prem_annotating.specs.Seen.{KnownCall, Touch, calls_in, calls_of, calls_of_all, touch, touched_by, touched_by_all, touched_by_locals, touched_by_result, touched_in}
+pub use Rattle.prem_annotating.specs.Seen.{KnownCall, GlobalAccess, calls_in, calls_of, calls_of_all, touch, touched_by, touched_by_all, touched_by_locals, touched_by_result, touched_in}
 pub use Rattle.prem_annotating.specs.Seen.{touches_of}
-pub use Rattle.prem_annotating.specs.declared.editing.walk.Mode.{Mode}
-pub use Rattle.prem_annotating.specs.declared.editing.walk.Mode.TheVariants.{Copying, Dropping, Skipping}
-pub use Rattle.prem_annotating.specs.declared.editing.walk.Spot.{Spot}
-pub use Rattle.prem_annotating.specs.declared.editing.walk.Spot.TheVariants.{AmongRegions, BehindName, BehindType, Elsewhere, InMark, InParameters, InRange}
+pub use Rattle.prem_annotating.specs.declared.editing.walk.GapMode.{GapMode}
+pub use Rattle.prem_annotating.specs.declared.editing.walk.GapMode.TheVariants.{Copying, Dropping, Skipping}
+pub use Rattle.prem_annotating.specs.declared.editing.walk.TokenPlace.{TokenPlace}
+pub use Rattle.prem_annotating.specs.declared.editing.walk.TokenPlace.TheVariants.{AmongRegions, BehindName, BehindType, Elsewhere, InMark, InParameters, InRange}
 pub use Rattle.prem_ranges.proofs.Basics.{is_at_most, is_below, is_not_below, none_first, none_left, none_right, tests_at_most, unbroken, unbroken_not}
 pub use Rattle.prem_ranges.proofs.Environments.{kinds-at_local, kinds-joined, kinds-loosened}
 pub use Rattle.prem_ranges.proofs.Expressions.{kinds-refined}
@@ -57,7 +57,7 @@ pub use Rattle.prem_syntax.specs.Resolve.{resolve_statement, resolve_statements,
 pub use Rattle.prem_syntax.specs.Resolved.{AndAlso, Binary, Call, Constant, Done, Element, For, If, Input, Local, OrElse, Output, Resolved, Routine, Scalar, SetElement, SetLocal, SetScalar}
 pub use Rattle.prem_syntax.specs.Resolved.{Steps, Term, Unary, While}
 pub use Rattle.prem_syntax.specs.Source.{Limits, access_of, calls_below, do_jobs, enter_if_there, everywhere, source_within, this_or, unlimited}
-unfoldable pub use Rattle.prem_syntax.specs.Source.{start}
+pub use Rattle.prem_syntax.specs.Source.{start}
 pub use Rattle.prem_syntax.specs.Syntax.{Expression, FunctionText, GlobalVariable, LocalVariable, MarkText, Parameter, ProgramText, RegionText, Statement, Statements, Text, absent, assign}
 pub use Rattle.prem_syntax.specs.Syntax.{binary, block, bounded_while, call, counting_for, element, function_item, global_item, if_else, if_then, input, literal, many, next_statement}
 pub use Rattle.prem_syntax.specs.Syntax.{no_statements, one, output, unary, variable}
@@ -106,7 +106,7 @@ pub use Rattle.prem_text.specs.Grammar.StatementPhrases.{written}
 pub use Rattle.prem_text.specs.Lexing.Spelling.{marks}
 unfoldable pub use Rattle.prem_text.specs.Lexing.Spelling.{is_unused, longest_mark, reserved_word, used_word}
 pub use Rattle.prem_text.specs.Lexing.Token.Lexeme.{Lexeme, Seen, end_of_text, lexeme_of, name, number, seen_of, word}
-unfoldable pub use Rattle.prem_text.specs.Lexing.Token.Lexeme.{mark}
+pub use Rattle.prem_text.specs.Lexing.Token.Lexeme.{mark}
 pub use Rattle.prem_text.specs.Lexing.Tokens.{begins_with, is_digit, is_name_byte, place}
 unfoldable pub use Rattle.prem_text.specs.Lexing.Tokens.{first_token, lex, tokens_of}
 pub use Rattle.prem_text.specs.Spelling.Division.{AreTokens, Divides, Gap, IsToken, a_blank, a_block, a_line, ends_line, gap, goes_on, opens_comment, place_behind, token, up_to}

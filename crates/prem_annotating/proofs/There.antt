@@ -1,7 +1,7 @@
 -- The edits of a text: at each function's mark and parameters, where something differs.
 use Rattle.prem_annotating.proofs.Prelude.{same_region, same_regions, length_order, regions_order, Order, leave, put, put_for, mode_of, region_row, Piece, between, a_token, text_of}
 use Rattle.prem_annotating.proofs.Prelude.{lexemes_in, AreDivided, said, mark_piece, range_pieces, regions_pieces, AreRegionWords, AreGaps, EndsInToken, Edited, all_edited, kept_piece}
-use Rattle.prem_annotating.proofs.Prelude.{with_range, with_regions, with_length, Copying, Spot, Elsewhere, InMark, RegionText, MarkText, stands_every, same_bytes, number_lexeme, kind_for}
+use Rattle.prem_annotating.proofs.Prelude.{with_range, with_regions, with_length, Copying, TokenPlace, Elsewhere, InMark, RegionText, MarkText, stands_every, same_bytes, number_lexeme, kind_for}
 use Rattle.prem_annotating.proofs.Prelude.{lexemes_of, lexeme_bytes, unplaced_region, unplaced_mark, IsRow, MarkPhrase, AreRegions, region_tokens, region_trees, IsMark, mark_tokens}
 use Rattle.prem_annotating.proofs.Prelude.{mark_tree, nowhere, Slot, left_parenthesis, right_parenthesis, a_name, a_literal, comma, the_region, the_predictable, value_of, value_at}
 use Rattle.prem_annotating.proofs.Prelude.{is_left_parenthesis, is_right_parenthesis, is_literal, marks, Lexeme, number, word, mark, Seen, StandsIn, every, Spells, as_mark, Mark, Kind, ◌≡◌}
@@ -159,7 +159,7 @@ pub kept_front : (front : List Piece) {ps qs : List Piece} → Edited ps qs → 
 kept_front front edited = edited_append (edited_itself front) edited
 
 -- pieces with other lexemes, as the walk from one spot to another gives them by orders, of which some are left
-pub record EditedTo (s : Spot) (os : List Order) (ps : List Piece) (ls : List Lexeme) (s' : Spot) (os' : List Order) : Type 0 where
+pub record EditedTo (s : TokenPlace) (os : List Order) (ps : List Piece) (ls : List Lexeme) (s' : TokenPlace) (os' : List Order) : Type 0 where
   pub new : List Piece
   pub edited : Edited ps new
   pub lexemes : lexemes_in new ≡ ls
@@ -172,7 +172,7 @@ gaps_none [] are = refl
 gaps_none (between b ∷ gaps) are = gaps_none gaps are
 gaps_none (a_token b t ∷ gaps) are = absurd are
 
-pub gaps_go : (s : Spot) (os : List Order) (gaps : List Piece) → mode_of s ≡ Copying → AreGaps gaps → Goes s os gaps gaps s os
+pub gaps_go : (s : TokenPlace) (os : List Order) (gaps : List Piece) → mode_of s ≡ Copying → AreGaps gaps → Goes s os gaps gaps s os
 gaps_go s os gaps mode are = stays_go s s os gaps mode (subst (λ l. Stays s l s) (sym (gaps_none gaps are)) refl)
 
 -- ---- a mark

@@ -13,7 +13,7 @@ use std::{fs, io};
 
 /// Which program answers.
 #[derive(Clone, Copy)]
-pub enum Program {
+pub enum FitProgram {
     Response,
     Times,
     Profile,
@@ -22,7 +22,7 @@ pub enum Program {
 /// Tells the answer to a line. The sink takes four bytes in a call.
 fn tell_line(
     rt: &(impl Print + Files + AllocGlobal),
-    program: Program,
+    program: FitProgram,
     line: &str,
 ) -> io::Result<()> {
     let alloc = rt.alloc();
@@ -30,24 +30,24 @@ fn tell_line(
     let mut store = MemoryStore::new(files(rt)?, vec![in alloc; asked.read_fault]?);
     let mut sink = MemorySink::new(alloc, 100_000, 4, vec![in alloc; asked.write_fault]?)?;
     let status = match program {
-        Program::Response => {
+        FitProgram::Response => {
             let status = fit(alloc, &asked.words, &mut store, &mut sink);
             format!(in alloc; "{status:?}")?
         }
-        Program::Times => {
+        FitProgram::Times => {
             let status = time(alloc, &asked.words, &mut store, &mut sink);
             format!(in alloc; "{status:?}")?
         }
-        Program::Profile => {
+        FitProgram::Profile => {
             let status = profiles(alloc, &asked.words, &mut store, &mut sink);
             format!(in alloc; "{status:?}")?
         }
     };
     let written = on_one_line(alloc, sink.bytes())?;
     let word = match program {
-        Program::Response => "response",
-        Program::Times => "times",
-        Program::Profile => "profile",
+        FitProgram::Response => "response",
+        FitProgram::Times => "times",
+        FitProgram::Profile => "profile",
     };
     println!(rt; "{word}: {line} => {status} {written}")
 }
@@ -55,7 +55,7 @@ fn tell_line(
 /// Tells the answers to the lines of a file.
 pub fn tell(
     rt: &(impl Print + Files + AllocGlobal),
-    program: Program,
+    program: FitProgram,
     name: &str,
 ) -> io::Result<()> {
     let file = fs::read_to_string(rt, name)?;

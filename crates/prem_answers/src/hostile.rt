@@ -8,14 +8,14 @@ mod answering;
 mod building;
 mod calls;
 
-use crate::hostile::building::Bench;
+use crate::hostile::building::BuiltFiles;
 use std::rt::Files;
 use std::{fs, io};
 
 /// The answers, one after another.
 pub fn tell(rt: &(impl Print + Files + AllocGlobal)) -> io::Result<()> {
     calls::tell(rt, rt.alloc())?;
-    let mut bench = Bench::new(rt.alloc());
+    let mut bench = BuiltFiles::new(rt.alloc());
     for name in ["images.txt", "outside.txt", "rules.txt", "large.txt"] {
         let file = fs::read_to_string(rt, name)?;
         for line in file.lines() {

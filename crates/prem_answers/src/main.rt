@@ -15,7 +15,7 @@ mod lints;
 mod pairs;
 mod sources;
 
-use fits::Program;
+use fits::FitProgram;
 use std::io;
 
 fn main(rt: HostRuntime) -> io::Result<()> {
@@ -25,9 +25,9 @@ fn main(rt: HostRuntime) -> io::Result<()> {
     commands::tell(&rt, "sets.txt")?;
     commands::tell(&rt, "runs.txt")?;
     pairs::tell(&rt, "pairs.txt")?;
-    fits::tell(&rt, Program::Response, "fits.txt")?;
-    fits::tell(&rt, Program::Times, "times.txt")?;
-    fits::tell(&rt, Program::Profile, "profiles.txt")?;
+    fits::tell(&rt, FitProgram::Response, "fits.txt")?;
+    fits::tell(&rt, FitProgram::Times, "times.txt")?;
+    fits::tell(&rt, FitProgram::Profile, "profiles.txt")?;
     annotations::tell(&rt, "annotations.txt")?;
     commands::tell_steady(&rt)?;
     lints::tell(&rt)?;

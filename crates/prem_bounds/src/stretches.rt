@@ -30,7 +30,7 @@ fn most(a: Option<u64>, b: Option<u64>) -> Option<u64>
 }
 
 /// Both sums together, told up to 2^41.
-fn both(a: Option<u64>, b: Option<u64>) -> Option<u64>
+fn sum_of_both(a: Option<u64>, b: Option<u64>) -> Option<u64>
     ensures { result ≡ clip (both a b) }
 {
     match a {
@@ -92,10 +92,10 @@ pub fn among(a: Sums, b: Sums) -> Sums
 pub fn chained(a: Sums, b: Sums) -> Sums
     ensures { AreTold result (chained (sums_of a) (sums_of b)) }
 {
-    let whole = both(a.whole, b.whole);
-    let through = both(a.whole, b.before);
-    let across = both(a.behind, b.before);
-    let out = both(a.behind, b.whole);
+    let whole = sum_of_both(a.whole, b.whole);
+    let through = sum_of_both(a.whole, b.before);
+    let across = sum_of_both(a.behind, b.before);
+    let out = sum_of_both(a.behind, b.whole);
     Sums {
         whole,
         before: most(a.before, through),
@@ -108,7 +108,7 @@ pub fn chained(a: Sums, b: Sums) -> Sums
 fn repeated(turns: u32, whole: Option<u64>, sum: Option<u64>) -> Option<u64>
     ensures { clip result ≡ clip (repeated turns whole sum) }
 {
-    both(Some(times(turns, or_none(whole))), sum)
+    sum_of_both(Some(times(turns, or_none(whole))), sum)
 }
 
 /// Between the cuts of two turns with as many turns between them as there may be.
@@ -119,7 +119,7 @@ fn again(turns: u32, turn: Sums) -> Option<u64>
         return None;
     }
     let next = repeated(turns - 2, turn.whole, turn.before);
-    both(turn.behind, next)
+    sum_of_both(turn.behind, next)
 }
 
 fn before_turns(turns: u32, turn: Sums, out: Sums) -> Option<u64>
@@ -137,7 +137,7 @@ fn between_turns(turns: u32, turn: Sums, out: Sums) -> Option<u64>
 {
     let inside = most(turn.between, out.between);
     let rest = repeated(turns - 1, turn.whole, out.before);
-    let last = both(turn.behind, rest);
+    let last = sum_of_both(turn.behind, rest);
     let again = again(turns, turn);
     most(inside, most(again, last))
 }
@@ -147,7 +147,7 @@ fn behind_turns(turns: u32, turn: Sums, out: Sums) -> Option<u64>
     ensures { clip result ≡ clip (behind_turns (turns - 1) (sums_of turn) (sums_of out)) }
 {
     let rest = repeated(turns - 1, turn.whole, out.whole);
-    let last = both(turn.behind, rest);
+    let last = sum_of_both(turn.behind, rest);
     most(out.behind, last)
 }
 

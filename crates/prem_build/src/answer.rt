@@ -28,7 +28,7 @@ fn sheet_text(alloc: Global, sheet: Sheet, compiled: &Compiled) -> Result<Vec<u8
 }
 
 /// The answer to a set that breaks no rule.
-fn told(alloc: Global, sheet: Sheet, compiled: &Compiled) -> Result<Answer, AllocError>
+fn done_answer(alloc: Global, sheet: Sheet, compiled: &Compiled) -> Result<Answer, AllocError>
     ensures { IfOk result (λ a. reply_of a ≡ (Done, sheet_text sheet (compiled_of compiled.now))) }
 {
     Ok(Answer {
@@ -43,7 +43,7 @@ fn compiled_answer(alloc: Global, sheet: Sheet, set: &TaskSet) -> Result<Answer,
     ensures unread { IsErrOf result Halt.ReadFault → ⊥ }
 {
     match compile(alloc, set) {
-        Ok(compiled) => Ok(told(alloc, sheet, &compiled)?),
+        Ok(compiled) => Ok(done_answer(alloc, sheet, &compiled)?),
         Err(fail) => uncompiled(alloc, set, fail),
     }
 }

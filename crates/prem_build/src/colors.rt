@@ -106,7 +106,7 @@ fn full(alloc: Global, tasks: &[TaskText], need: u64, have: u32) -> Result<Answe
 }
 
 /// The answer to a set that breaks no rule.
-fn told(alloc: Global, compiled: &Compiled) -> Result<Answer, AllocError>
+fn colored_answer(alloc: Global, compiled: &Compiled) -> Result<Answer, AllocError>
     ensures { IfOk result (λ a. reply_of a ≡ (Done, image_bytes (compiled_of compiled.now).image)) }
 {
     Ok(Answer {
@@ -122,7 +122,7 @@ fn placed_answer(alloc: Global, set: &TaskSet, layout: &Layout) -> Result<Answer
     ensures unread { IsErrOf result Halt.ReadFault → ⊥ }
 {
     match compile_at(alloc, set, layout) {
-        Ok(compiled) => Ok(told(alloc, &compiled)?),
+        Ok(compiled) => Ok(colored_answer(alloc, &compiled)?),
         Err(fail) => uncompiled(alloc, set, fail),
     }
 }

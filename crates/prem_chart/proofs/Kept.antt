@@ -15,7 +15,7 @@ use Rattle.prem_layout.specs.Image.{device_records}
 use Rattle.prem_layout.specs.Placed.{part_total}
 use Rattle.prem_tasks.specs.Broken.{TaskSet}
 use Rattle.prem_tasks.specs.Compiled.{coded_in, compiled, places_in}
-use Rattle.prem_sets_sound.specs.Accepted.Accepted.{setup_in}
+use Rattle.prem_sets_sound.specs.ImagePremises.Accepted.{setup_in}
 use Rattle.prem_latency.specs.Images.{ServesDevice}
 use Rattle.prem_latency.specs.Sets.{KeepDistances}
 use Rattle.prem_latency.specs.Wait.{requests_in}

@@ -17,7 +17,7 @@ use Rattle.prem_cycle.specs.Runs.Transfer.Lengths.{device_cost}
 use Rattle.prem_report.specs.Report.{in_turn, task_name, device_name, kind_word, direction_word}
 use Rattle.prem_time.specs.declared.promises.Promise.{Promise}
 use Rattle.prem_chart.specs.declared.view.View.{View}
-use Rattle.prem_chart.specs.declared.view.Sheet.{Sheet}
+use Rattle.prem_chart.specs.declared.view.Canvas.{Canvas}
 use Rattle.prem_chart.specs.declared.view.Look.{Look}
 use Rattle.prem_chart.specs.declared.view.Look.TheVariants as look
 use Rattle.prem_chart.specs.declared.view.Bar.{Bar}
@@ -172,7 +172,7 @@ transfer_keeps cost t =
 
 -- ---- notes
 
-shown_keeps : (s : Sheet) (first cycles : ℕ) (drawn : Shape) → Keeps drawn.told → Keeps (shape_shown s first cycles drawn)
+shown_keeps : (s : Canvas) (first cycles : ℕ) (drawn : Shape) → Keeps drawn.told → Keeps (shape_shown s first cycles drawn)
 shown_keeps s first cycles drawn told = keeps_if (is_inside s.view first (first + cycles)) (shape_text drawn) (shape_keeps drawn told)
 
 open_told_keeps : (cycles first : ℕ) → Keeps (open_told cycles first)
@@ -187,10 +187,10 @@ idle_told_keeps : (cycles first : ℕ) → Keeps (idle_told cycles first)
 unfolding idle_told
 idle_told_keeps cycles first = keeps_pieces (words (codes ": ") ∷ span_pieces cycles first) (λ tag around. refl)
 
-open_keeps : (s : Sheet) (w : Window) → Keeps (open_shown s w)
+open_keeps : (s : Canvas) (w : Window) → Keeps (open_shown s w)
 open_keeps s w = shown_keeps s w.start (window_cycles w) (open_shape s w) (open_told_keeps (window_cycles w) w.start)
 
-window_keeps : (s : Sheet) (tasks : List TaskRecord) (n : Note) → Keeps (window_text s tasks n)
+window_keeps : (s : Canvas) (tasks : List TaskRecord) (n : Note) → Keeps (window_text s tasks n)
 window_keeps s tasks (Phase k w) =
     keeps_append (phase_shown s tasks k w) (open_shown s w)
     (shown_keeps s w.start (window_cycles w) (phase_shape s tasks k w) (phase_told_keeps (window_cycles w) w.start)) (open_keeps s w)
@@ -220,11 +220,11 @@ mark_taken told path cycle around tag h k =
     then_taken (Content (titled (tag ∷ around))) (Content (titled (tag ∷ around))) (Content (tag ∷ around)) told (cycle_told cycle ++ path) (h (codes "title") (codes "g" ∷ tag ∷ around))
     (then_taken (Content (titled (tag ∷ around))) (Content (codes "g" ∷ tag ∷ around)) (Content (tag ∷ around)) (cycle_told cycle) path (cycle_taken cycle (tag ∷ around)) k)
 
-miss_taken : (s : Sheet) (k cycle : ℕ) (around : List Name) (tag : Name) → read (Content (titled (tag ∷ around))) (miss_mark s k cycle) ≡ Content (tag ∷ around)
+miss_taken : (s : Canvas) (k cycle : ℕ) (around : List Name) (tag : Name) → read (Content (titled (tag ∷ around))) (miss_mark s k cycle) ≡ Content (tag ∷ around)
 miss_taken s k cycle around tag =
     mark_taken miss_told (miss_path (place s.view cycle) (task_top s k + 445)) cycle around tag miss_told_keeps (miss_path_taken (place s.view cycle) (task_top s k + 445) around tag)
 
-miss_keeps : (s : Sheet) (tasks : List TaskRecord) (n : Note) → Keeps (miss_text s tasks n)
+miss_keeps : (s : Canvas) (tasks : List TaskRecord) (n : Note) → Keeps (miss_text s tasks n)
 miss_keeps s tasks (Phase k w) = keeps_none
 miss_keeps s tasks (Rest w) = keeps_none
 miss_keeps s tasks (Miss k cycle) =
@@ -249,7 +249,7 @@ every_taken : (y period : ℕ) (around : List Name) (tag : Name) → read (Conte
 unfolding every_text
 every_taken y period around tag = taken_text (Content (codes "text" ∷ codes "g" ∷ tag ∷ around)) (every_pieces y period) (Content (tag ∷ around)) refl
 
-label_keeps : (s : Sheet) (k : ℕ) (t : TaskRecord) → Keeps (task_label s k t)
+label_keeps : (s : Canvas) (k : ℕ) (t : TaskRecord) → Keeps (task_label s k t)
 label_keeps s k t tag around =
     let out : List Name = tag ∷ around in
     let inner : List Name = codes "g" ∷ out in
@@ -282,7 +282,7 @@ idle_row_keeps tag around = refl
 bus_row_keeps : Keeps (codes "bus")
 bus_row_keeps tag around = refl
 
-labels_keep : (s : Sheet) (tasks : List TaskRecord) → Keeps (labels_text s tasks)
+labels_keep : (s : Canvas) (tasks : List TaskRecord) → Keeps (labels_text s tasks)
 unfolding labels_text
 labels_keep s tasks =
     keeps_append (each_text (task_label s) tasks) (idle_label s ++ bus_label s) (keeps_each (task_label s) (label_keeps s) tasks)
@@ -304,7 +304,7 @@ arrow_taken : (x y : ℕ) (around : List Name) (tag : Name) → read (Content (c
 unfolding arrow_path
 arrow_taken x y around tag = taken_text (Content (codes "g" ∷ tag ∷ around)) (arrow_pieces x y) (Content (tag ∷ around)) refl
 
-release_keeps : (s : Sheet) (k : ℕ) (task : List ℕ) (period job : ℕ) → Keeps (release_shown s k task period job)
+release_keeps : (s : Canvas) (k : ℕ) (task : List ℕ) (period job : ℕ) → Keeps (release_shown s k task period job)
 release_keeps s k task period job =
     keeps_if (is_marked s.view (job * period)) (owner_text task ++ (release_told job ++ arrow_text s k (job * period)))
     (keeps_mark task (release_told job ++ arrow_text s k (job * period))
@@ -319,17 +319,17 @@ deadline_path_taken : (x y : ℕ) (around : List Name) (tag : Name) → read (Co
 unfolding deadline_path
 deadline_path_taken x y around tag = taken_text (Content (codes "g" ∷ tag ∷ around)) (deadline_pieces x y) (Content (tag ∷ around)) refl
 
-deadline_taken : (s : Sheet) (k jobs cycle : ℕ) (around : List Name) (tag : Name) → read (Content (titled (tag ∷ around))) (deadline_text s k jobs cycle) ≡ Content (tag ∷ around)
+deadline_taken : (s : Canvas) (k jobs cycle : ℕ) (around : List Name) (tag : Name) → read (Content (titled (tag ∷ around))) (deadline_text s k jobs cycle) ≡ Content (tag ∷ around)
 deadline_taken s k jobs cycle around tag =
     mark_taken (deadline_told jobs) (deadline_path (place s.view cycle) (task_top s k + 40)) cycle around tag (last_keeps jobs)
     (deadline_path_taken (place s.view cycle) (task_top s k + 40) around tag)
 
-deadline_keeps : (s : Sheet) (k : ℕ) (task : List ℕ) (period jobs : ℕ) → Keeps (deadline_shown s k task period jobs)
+deadline_keeps : (s : Canvas) (k : ℕ) (task : List ℕ) (period jobs : ℕ) → Keeps (deadline_shown s k task period jobs)
 deadline_keeps s k task period jobs =
     keeps_if (is_marked s.view (jobs * period)) (owner_text task ++ deadline_text s k jobs (jobs * period))
     (keeps_mark task (deadline_text s k jobs (jobs * period)) (deadline_taken s k jobs (jobs * period)))
 
-releases_keep : (s : Sheet) (k : ℕ) (t : TaskRecord) → Keeps (releases_text s k t)
+releases_keep : (s : Canvas) (k : ℕ) (t : TaskRecord) → Keeps (releases_text s k t)
 releases_keep s k t =
     keeps_append (in_turn (release_shown s k t.name t.period) t.jobs) (deadline_shown s k t.name t.period t.jobs)
     (keeps_turns (release_shown s k t.name t.period) (release_keeps s k t.name t.period) t.jobs) (deadline_keeps s k t.name t.period t.jobs)
@@ -350,7 +350,7 @@ unfolding within_text
 within_taken y (Some wait) around tag = taken_text (Content (codes "g" ∷ tag ∷ around)) (within_pieces y wait) (Content (tag ∷ around)) refl
 within_taken y None around tag = taken_text (Content (codes "g" ∷ tag ∷ around)) (unknown_pieces y) (Content (tag ∷ around)) refl
 
-promise_label_keeps : (s : Sheet) (devices : List DeviceRecord) (row : ℕ) (p : Promise) → Keeps (promise_label s devices row p)
+promise_label_keeps : (s : Canvas) (devices : List DeviceRecord) (row : ℕ) (p : Promise) → Keeps (promise_label s devices row p)
 promise_label_keeps s devices row p tag around =
     let out : List Name = tag ∷ around in
     let inner : List Name = codes "g" ∷ out in
@@ -372,14 +372,14 @@ request_told_keeps : (line wait cycle : ℕ) → Keeps (request_told line wait c
 unfolding request_told
 request_told_keeps line wait cycle = keeps_pieces (request_pieces line wait cycle) (λ tag around. refl)
 
-request_keeps : (s : Sheet) (devices : List DeviceRecord) (row wait level : ℕ) (r : Request) → Keeps (request_shown s devices row wait level r)
+request_keeps : (s : Canvas) (devices : List DeviceRecord) (row wait level : ℕ) (r : Request) → Keeps (request_shown s devices row wait level r)
 request_keeps s devices row wait level r = shown_keeps s r.cycle wait (request_shape s devices row wait level r) (request_told_keeps r.line wait r.cycle)
 
 keeps_either : (b : Bool) (yes_text no_text : List ℕ) → Keeps yes_text → Keeps no_text → Keeps (cond b yes_text no_text)
 keeps_either true yes_text no_text h k = h
 keeps_either false yes_text no_text h k = k
 
-requests_keep : (s : Sheet) (devices : List DeviceRecord) (cycles row device wait behind level : ℕ) (requests : List Request) →
+requests_keep : (s : Canvas) (devices : List DeviceRecord) (cycles row device wait behind level : ℕ) (requests : List Request) →
     Keeps (requests_from s devices cycles row device wait behind level requests)
 requests_keep s devices cycles row device wait behind level [] = keeps_none
 requests_keep s devices cycles row device wait behind level (r ∷ rs) =
@@ -390,45 +390,45 @@ requests_keep s devices cycles row device wait behind level (r ∷ rs) =
     (keeps_append shown more (request_keeps s devices row wait next r) (requests_keep s devices cycles row device wait (r.cycle + wait) next rs))
     (requests_keep s devices cycles row device wait behind level rs)
 
-row_keeps : (s : Sheet) (devices : List DeviceRecord) (requests : List Request) (cycles row device : ℕ) (wait : Option ℕ) → Keeps (row_text s devices requests cycles row device wait)
+row_keeps : (s : Canvas) (devices : List DeviceRecord) (requests : List Request) (cycles row device : ℕ) (wait : Option ℕ) → Keeps (row_text s devices requests cycles row device wait)
 row_keeps s devices requests cycles row device None = keeps_none
 row_keeps s devices requests cycles row device (Some wait) = requests_keep s devices cycles row device wait 0 0 requests
 
-promise_keeps : (s : Sheet) (devices : List DeviceRecord) (requests : List Request) (cycles row : ℕ) (p : Promise) → Keeps (promise_row s devices requests cycles row p)
+promise_keeps : (s : Canvas) (devices : List DeviceRecord) (requests : List Request) (cycles row : ℕ) (p : Promise) → Keeps (promise_row s devices requests cycles row p)
 promise_keeps s devices requests cycles row p =
     keeps_append (promise_label s devices row p) (row_text s devices requests cycles row p.device p.wait) (promise_label_keeps s devices row p)
     (row_keeps s devices requests cycles row p.device p.wait)
 
-all_promises_keep : (s : Sheet) (devices : List DeviceRecord) (requests : List Request) (cycles : ℕ) (promises : List Promise) → Keeps (all_promises s devices requests cycles promises)
+all_promises_keep : (s : Canvas) (devices : List DeviceRecord) (requests : List Request) (cycles : ℕ) (promises : List Promise) → Keeps (all_promises s devices requests cycles promises)
 unfolding all_promises
 all_promises_keep s devices requests cycles promises = keeps_each (promise_row s devices requests cycles) (promise_keeps s devices requests cycles) promises
 
 -- ---- axis and head
 
-grid_keeps : (s : Sheet) (x : ℕ) → Keeps (grid_text s x)
+grid_keeps : (s : Canvas) (x : ℕ) → Keeps (grid_text s x)
 unfolding grid_text
 grid_keeps s x = keeps_pieces (grid_pieces s x) (λ tag around. refl)
 
-tick_keeps : (s : Sheet) (x cycle : ℕ) → Keeps (tick_text s x cycle)
+tick_keeps : (s : Canvas) (x cycle : ℕ) → Keeps (tick_text s x cycle)
 unfolding tick_text
 tick_keeps s x cycle = keeps_pieces (tick_pieces s x cycle) (λ tag around. refl)
 
-axis_name_keeps : (s : Sheet) → Keeps (axis_name s)
+axis_name_keeps : (s : Canvas) → Keeps (axis_name s)
 unfolding axis_name
 axis_name_keeps s = keeps_pieces (axis_pieces s) (λ tag around. refl)
 
-shown_tick_keeps : (s : Sheet) (cycle : ℕ) → Keeps (tick_shown s cycle)
+shown_tick_keeps : (s : Canvas) (cycle : ℕ) → Keeps (tick_shown s cycle)
 shown_tick_keeps s cycle =
     let x : ℕ = place s.view cycle in
     keeps_if (nat_le cycle s.view.behind) (grid_text s x ++ tick_text s x cycle) (keeps_append (grid_text s x) (tick_text s x cycle) (grid_keeps s x) (tick_keeps s x cycle))
 
-ticks_keep : (s : Sheet) (step count : ℕ) → Keeps (ticks_text s step count)
+ticks_keep : (s : Canvas) (step count : ℕ) → Keeps (ticks_text s step count)
 unfolding ticks_text
 ticks_keep s step count =
     let tick : ℕ → List ℕ = λ k. tick_shown s ((multiples_before step s.view.first + k) * step) in
     keeps_turns tick (λ k. shown_tick_keeps s ((multiples_before step s.view.first + k) * step)) count
 
-axis_keeps : (s : Sheet) → Keeps (axis_text s)
+axis_keeps : (s : Canvas) → Keeps (axis_text s)
 unfolding axis_text
 axis_keeps s =
     let step = tick_step (s.view.behind - s.view.first) in
@@ -438,7 +438,7 @@ style_keeps : Keeps style_text
 unfolding style_text
 style_keeps tag around = refl
 
-paper_keeps : (s : Sheet) → Keeps (paper_text s)
+paper_keeps : (s : Canvas) → Keeps (paper_text s)
 unfolding paper_text
 paper_keeps s = keeps_pieces (paper_pieces s) (λ tag around. refl)
 
@@ -506,11 +506,11 @@ counts_keep cycles stop n tag around =
 
 -- ---- the picture
 
-size_taken : (s : Sheet) → read Before (size_text s) ≡ Content (codes "svg" ∷ [])
+size_taken : (s : Canvas) → read Before (size_text s) ≡ Content (codes "svg" ∷ [])
 unfolding size_text
 size_taken s = taken_text Before (size_pieces s) (Content (codes "svg" ∷ [])) refl
 
-rows_keep : (s : Sheet) (tasks : List TaskRecord) (devices : List DeviceRecord) (r : Report) (notes : List Note) → Keeps (rows_text s tasks devices r notes)
+rows_keep : (s : Canvas) (tasks : List TaskRecord) (devices : List DeviceRecord) (r : Report) (notes : List Note) → Keeps (rows_text s tasks devices r notes)
 unfolding rows_text
 rows_keep s tasks devices r notes =
     let intervals : List ℕ = flat_map shape_text (interval_shapes s tasks r.intervals) in
@@ -522,11 +522,11 @@ rows_keep s tasks devices r notes =
     (keeps_shapes (transfer_shape s devices) (λ t. transfer_keeps (device_cost devices t.device) t) (filter (has_transfer s devices) r.transfers))
     (keeps_flat (miss_text s tasks) (miss_keeps s tasks) notes)))
 
-frame_keeps : (s : Sheet) (tasks : List TaskRecord) → Keeps (frame_text s tasks)
+frame_keeps : (s : Canvas) (tasks : List TaskRecord) → Keeps (frame_text s tasks)
 unfolding frame_text
 frame_keeps s tasks = keeps_append (axis_text s) (labels_text s tasks) (axis_keeps s) (labels_keep s tasks)
 
-all_releases_keep : (s : Sheet) (tasks : List TaskRecord) → Keeps (all_releases s tasks)
+all_releases_keep : (s : Canvas) (tasks : List TaskRecord) → Keeps (all_releases s tasks)
 unfolding all_releases
 all_releases_keep s tasks = keeps_each (releases_text s) (releases_keep s) tasks
 
@@ -546,11 +546,11 @@ told_keeps set devices cycles stop n =
 abbrev svg : List Name
 svg = codes "svg" ∷ []
 
-ground_taken : (s : Sheet) → read Before (size_text s ++ (style_text ++ paper_text s)) ≡ Content svg
+ground_taken : (s : Canvas) → read Before (size_text s ++ (style_text ++ paper_text s)) ≡ Content svg
 ground_taken s =
     then_taken Before (Content svg) (Content svg) (size_text s) (style_text ++ paper_text s) (size_taken s) (keeps_append style_text (paper_text s) style_keeps (paper_keeps s) (codes "svg") [])
 
-head_taken : (s : Sheet) (set : List ℕ) (devices : List DeviceRecord) (r : Report) (cycles : ℕ) (stop : Stop) → read Before (head_text s set devices r cycles stop) ≡ Content svg
+head_taken : (s : Canvas) (set : List ℕ) (devices : List DeviceRecord) (r : Report) (cycles : ℕ) (stop : Stop) → read Before (head_text s set devices r cycles stop) ≡ Content svg
 unfolding head_text
 head_taken s set devices r cycles stop =
     then_taken Before (Content svg) (Content svg) (size_text s ++ (style_text ++ paper_text s)) (title_text set ++ (counts_text cycles stop r.counts ++ (keys_text ++ device_keys devices)))
@@ -560,7 +560,7 @@ ends_picture : read (Content svg) end_text ≡ After
 unfolding end_text
 ends_picture = refl
 
-sheet_is_well_formed : (s : Sheet) (set : List ℕ) (tasks : List TaskRecord) (devices : List DeviceRecord) (r : Report) (cycles : ℕ) (stop : Stop) (notes : List Note)
+sheet_is_well_formed : (s : Canvas) (set : List ℕ) (tasks : List TaskRecord) (devices : List DeviceRecord) (r : Report) (cycles : ℕ) (stop : Stop) (notes : List Note)
     (requests : List Request) (promises : List Promise) → IsWellFormed (sheet_text s set tasks devices r cycles stop notes requests promises)
 sheet_is_well_formed s set tasks devices r cycles stop notes requests promises =
     let frame : List ℕ = frame_text s tasks in

@@ -17,10 +17,10 @@ use Rattle.prem_text.specs.Lexing.Spelling.{reserved_word, used_word, is_unused,
 use Rattle.prem_text.specs.Lexing.Literal.{literal_word}
 use Rattle.prem_ranges.specs.RangesKept.{first_range_breach, turn_bounds}
 use Rattle.prem_tasks.specs.Compiled.{compiled}
-use Rattle.prem_sets_sound.specs.Accepted.Accepted.{setup_in}
+use Rattle.prem_sets_sound.specs.ImagePremises.Accepted.{setup_in}
 use Rattle.prem_sets_sound.specs.Meant.{promises_in}
 use Rattle.prem_sets_sound.specs.Sound.{IsSoundSet}
-use Rattle.prem_sets_sound.proofs.AcceptedLemmas.Sample.{sample, sample_values, sample_breaks_nothing}
+use Rattle.prem_sets_sound.proofs.ImagePremisesLemmas.Sample.{sample, sample_values, sample_breaks_nothing}
 use Rattle.prem_sets_sound.proofs.Sound.{sets_are_sound}
 use Rattle.prem_latency.proofs.WcetLemmas.Sample.{sample_periods}
 use Rattle.prem_latency.specs.Images.{ServesDevice}

@@ -2,7 +2,7 @@
 use Rattle.std.specs.Prelude.{map, string_bytes}
 use Rattle.prem_command.specs.Chart.{chart_asked}
 use Rattle.prem_time.specs.Asked.{distances_in}
-use Rattle.prem_chart.specs.declared.words.Asked.{Asked as AskedIn}
+use Rattle.prem_chart.specs.declared.words.PictureAsked.{PictureAsked as AskedIn}
 use Rattle.prem_chart.specs.declared.words.Parted.{Parted as PartedIn}
 use Rattle.prem_chart.specs.Words.{Asked, Parted}
 

@@ -1,27 +1,27 @@
 -- The head of a picture: its size, how all looks, what the run counted, and the keys to its colours.
 use Rattle.std.specs.Prelude.{ℕ, ◌+◌, ◌*◌, ◌/◌, ◌%◌, List, [], ◌∷◌, ◌++◌, codes}
 use Rattle.prem_chart.specs.declared.head.TheConstants.{STYLE, KEYS}
-use Rattle.prem_chart.specs.declared.view.Sheet.{Sheet}
+use Rattle.prem_chart.specs.declared.view.Canvas.{Canvas}
 use Rattle.prem_chart.specs.Pieces.{Piece, text_of, words, number, escaped}
 use Rattle.prem_chart.specs.Places.{height_of}
 
 -- the size, in units
-abbrev pub size_pieces : Sheet → List Piece
+abbrev pub size_pieces : Canvas → List Piece
 size_pieces s =
     words (codes "<svg xmlns=\"http://www.w3.org/2000/svg\" viewBox=\"0 0 12000 ") ∷ number (height_of s) ∷ words (codes "\" width=\"1200\" height=\"") ∷ number (height_of s / 10)
     ∷ words (codes "\">\n") ∷ []
 
-unfoldable pub size_text : Sheet → List ℕ
+unfoldable pub size_text : Canvas → List ℕ
 size_text s = text_of (size_pieces s)
 
 unfoldable pub style_text : List ℕ
 style_text = STYLE.now
 
 -- the ground below all
-abbrev pub paper_pieces : Sheet → List Piece
+abbrev pub paper_pieces : Canvas → List Piece
 paper_pieces s = words (codes "<rect class=\"paper\" width=\"12000\" height=\"") ∷ number (height_of s) ∷ words (codes "\"/>\n") ∷ []
 
-unfoldable pub paper_text : Sheet → List ℕ
+unfoldable pub paper_text : Canvas → List ℕ
 paper_text s = text_of (paper_pieces s)
 
 -- whose run it is

@@ -10,7 +10,7 @@ use Rattle.prem_cycle.specs.State.{Counts}
 use Rattle.prem_cycle.specs.FactsOf.{Report}
 use Rattle.prem_time.specs.declared.promises.Promise.{Promise}
 use Rattle.prem_chart.specs.declared.view.View.{View}
-use Rattle.prem_chart.specs.declared.view.Sheet.{Sheet}
+use Rattle.prem_chart.specs.declared.view.Canvas.{Canvas}
 use Rattle.prem_chart.specs.declared.note.Note.{Note}
 use Rattle.prem_chart.specs.Axis.{axis_text}
 use Rattle.prem_chart.specs.Head.{size_text, style_text, paper_text, title_text, keys_text, time_text, cache_text, phase_text, bus_text}
@@ -30,25 +30,25 @@ abbrev pub counts_text : ℕ → Stop → Counts → List ℕ
 counts_text cycles stop n =
     time_text cycles ++ (stop_word stop ++ (cache_text n.hits n.misses ++ (phase_text n.exec_misses n.writebacks ++ bus_text n.clashes)))
 
-unfoldable pub head_text : Sheet → List ℕ → List DeviceRecord → Report → (cycles : ℕ) → Stop → List ℕ
+unfoldable pub head_text : Canvas → List ℕ → List DeviceRecord → Report → (cycles : ℕ) → Stop → List ℕ
 head_text s set devices r cycles stop =
     size_text s ++ (style_text ++ paper_text s) ++ (title_text set ++ (counts_text cycles stop r.counts ++ (keys_text ++ device_keys devices)))
 
 -- what is behind the bars, and the bars
-unfoldable pub rows_text : Sheet → List TaskRecord → List DeviceRecord → Report → List Note → List ℕ
+unfoldable pub rows_text : Canvas → List TaskRecord → List DeviceRecord → Report → List Note → List ℕ
 rows_text s tasks devices r notes =
     flat_map shape_text (interval_shapes s tasks r.intervals) ++ (windows_text s tasks notes ++ (flat_map shape_text (transfer_shapes s devices r.transfers) ++ misses_text s tasks notes))
 
-unfoldable pub frame_text : Sheet → List TaskRecord → List ℕ
+unfoldable pub frame_text : Canvas → List TaskRecord → List ℕ
 frame_text s tasks = axis_text s ++ labels_text s tasks
 
-abbrev pub sheet_of : View → List TaskRecord → List DeviceRecord → List Promise → Sheet
+abbrev pub sheet_of : View → List TaskRecord → List DeviceRecord → List Promise → Canvas
 sheet_of v tasks devices promises = record { view = v; tasks = length tasks; devices = length devices; promised = length promises }
 
 unfoldable pub end_text : List ℕ
 end_text = codes "</svg>\n"
 
-abbrev pub sheet_text : Sheet → List ℕ → List TaskRecord → List DeviceRecord → Report → (cycles : ℕ) → Stop → List Note → List Request → List Promise → List ℕ
+abbrev pub sheet_text : Canvas → List ℕ → List TaskRecord → List DeviceRecord → Report → (cycles : ℕ) → Stop → List Note → List Request → List Promise → List ℕ
 sheet_text s set tasks devices r cycles stop notes requests promises =
     head_text s set devices r cycles stop ++ (frame_text s tasks ++ (rows_text s tasks devices r notes ++ (all_releases s tasks
     ++ (all_promises s devices requests cycles promises ++ end_text))))

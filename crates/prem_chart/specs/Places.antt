@@ -1,7 +1,7 @@
 -- Where cycles and rows stand in a picture. All lengths are in tenths of a unit.
 use Rattle.std.specs.Prelude.{ℕ, ◌+◌, ◌-◌, ◌*◌, ◌/◌, ◌≤◌, ◌<◌, ◌^◌, nat_lt, min, max, Bool}
 use Rattle.prem_chart.specs.declared.view.View.{View}
-use Rattle.prem_chart.specs.declared.view.Sheet.{Sheet}
+use Rattle.prem_chart.specs.declared.view.Canvas.{Canvas}
 use Rattle.prem_chart.specs.declared.view.Look.{Look}
 use Rattle.prem_chart.specs.declared.view.Bar.{Bar}
 
@@ -43,27 +43,27 @@ bar_of v look y height first behind =
 -- ---- rows
 
 -- the head has a line of keys for four devices each
-abbrev pub rows_top : Sheet → ℕ
+abbrev pub rows_top : Canvas → ℕ
 rows_top s = 980 + 200 * ((s.devices + 3) / 4)
 
 -- the upper edge of the row of a task
-abbrev pub task_top : Sheet → ℕ → ℕ
+abbrev pub task_top : Canvas → ℕ → ℕ
 task_top s k = rows_top s + 520 * k
 
 -- those of idle time, of the bus, and of the axis
-abbrev pub idle_top : Sheet → ℕ
+abbrev pub idle_top : Canvas → ℕ
 idle_top s = rows_top s + 520 * s.tasks
 
-abbrev pub bus_top : Sheet → ℕ
+abbrev pub bus_top : Canvas → ℕ
 bus_top s = rows_top s + 520 * s.tasks + 340
 
-abbrev pub axis_top : Sheet → ℕ
+abbrev pub axis_top : Canvas → ℕ
 axis_top s = rows_top s + 520 * (s.tasks + s.promised) + 780
 
 -- that of a row for what is promised to a device, between the bus and the axis
-abbrev pub promise_top : Sheet → ℕ → ℕ
+abbrev pub promise_top : Canvas → ℕ → ℕ
 promise_top s row = rows_top s + 520 * s.tasks + 780 + 520 * row
 
 -- all of it
-abbrev pub height_of : Sheet → ℕ
+abbrev pub height_of : Canvas → ℕ
 height_of s = rows_top s + 520 * (s.tasks + s.promised) + 1340

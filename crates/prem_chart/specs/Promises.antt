@@ -5,7 +5,7 @@ use Rattle.prem_image.specs.declared.image.DeviceRecord.{DeviceRecord}
 use Rattle.prem_report.specs.Report.{device_name}
 use Rattle.prem_time.specs.declared.promises.Promise.{Promise}
 use Rattle.prem_chart.specs.declared.view.Look.TheVariants.{Device}
-use Rattle.prem_chart.specs.declared.view.Sheet.{Sheet}
+use Rattle.prem_chart.specs.declared.view.Canvas.{Canvas}
 use Rattle.prem_chart.specs.declared.view.Bar.{Bar}
 use Rattle.prem_chart.specs.Pieces.{Piece, text_of, words, number, escaped}
 use Rattle.prem_chart.specs.Places.{bar_of, promise_top}
@@ -44,12 +44,12 @@ within_text y (Some wait) = text_of (within_pieces y wait)
 within_text y None = text_of (unknown_pieces y)
 
 -- behind its title
-abbrev pub promise_name : Sheet → (row : ℕ) → (device : List ℕ) → Promise → List ℕ
+abbrev pub promise_name : Canvas → (row : ℕ) → (device : List ℕ) → Promise → List ℕ
 promise_name s row device p =
     name_start (promise_top s row + 170) ++ (escaped device
     ++ (apart_text (promise_top s row + 290) p.every ++ (within_text (promise_top s row + 410) p.wait ++ base_text (promise_top s row + 430))))
 
-abbrev pub promise_label : Sheet → List DeviceRecord → ℕ → Promise → List ℕ
+abbrev pub promise_label : Canvas → List DeviceRecord → ℕ → Promise → List ℕ
 promise_label s devices row p =
     owner_text (device_name devices p.device) ++ (served_told p.every p.wait ++ promise_name s row (device_name devices p.device) p)
 
@@ -62,13 +62,13 @@ unfoldable pub request_told : (line wait cycle : ℕ) → List ℕ
 request_told line wait cycle = text_of (request_pieces line wait cycle)
 
 -- from the cycle in which it comes up to its last moment, so many cycles later
-abbrev pub request_bar : Sheet → (row level wait : ℕ) → Request → Bar
+abbrev pub request_bar : Canvas → (row level wait : ℕ) → Request → Bar
 request_bar s row level wait r = bar_of s.view (Device r.device) (promise_top s row + 60 + 60 * level) 50 r.cycle (r.cycle + wait)
 
-abbrev pub request_shape : Sheet → List DeviceRecord → (row wait level : ℕ) → Request → Shape
+abbrev pub request_shape : Canvas → List DeviceRecord → (row wait level : ℕ) → Request → Shape
 request_shape s devices row wait level r = shape (request_bar s row level wait r) wait (device_name devices r.device) (request_told r.line wait r.cycle)
 
-abbrev pub request_shown : Sheet → List DeviceRecord → (row wait level : ℕ) → Request → List ℕ
+abbrev pub request_shown : Canvas → List DeviceRecord → (row wait level : ℕ) → Request → List ℕ
 request_shown s devices row wait level r = shape_shown s r.cycle wait (request_shape s devices row wait level r)
 
 -- one of this device that has come in a run of so many cycles
@@ -83,7 +83,7 @@ next_level level = if nat_lt level 5 then level + 1 else 0
 abbrev pub level_of : (behind level cycle : ℕ) → ℕ
 level_of behind level cycle = if nat_lt cycle behind then next_level level else 0
 
-abbrev pub requests_from : Sheet → List DeviceRecord → (cycles row device wait behind level : ℕ) → List Request → List ℕ
+abbrev pub requests_from : Canvas → List DeviceRecord → (cycles row device wait behind level : ℕ) → List Request → List ℕ
 requests_from s devices cycles row device wait behind level [] = []
 requests_from s devices cycles row device wait behind level (r ∷ rs) =
     if has_come device cycles r then
@@ -91,14 +91,14 @@ requests_from s devices cycles row device wait behind level (r ∷ rs) =
     else requests_from s devices cycles row device wait behind level rs
 
 -- nothing where no wait is known
-abbrev pub row_text : Sheet → List DeviceRecord → List Request → (cycles row device : ℕ) → Option ℕ → List ℕ
+abbrev pub row_text : Canvas → List DeviceRecord → List Request → (cycles row device : ℕ) → Option ℕ → List ℕ
 row_text s devices requests cycles row device None = []
 row_text s devices requests cycles row device (Some wait) = requests_from s devices cycles row device wait 0 0 requests
 
 -- ---- all rows
 
-abbrev pub promise_row : Sheet → List DeviceRecord → List Request → (cycles row : ℕ) → Promise → List ℕ
+abbrev pub promise_row : Canvas → List DeviceRecord → List Request → (cycles row : ℕ) → Promise → List ℕ
 promise_row s devices requests cycles row p = promise_label s devices row p ++ row_text s devices requests cycles row p.device p.wait
 
-unfoldable pub all_promises : Sheet → List DeviceRecord → List Request → (cycles : ℕ) → List Promise → List ℕ
+unfoldable pub all_promises : Canvas → List DeviceRecord → List Request → (cycles : ℕ) → List Promise → List ℕ
 all_promises s devices requests cycles promises = each_text (promise_row s devices requests cycles) promises

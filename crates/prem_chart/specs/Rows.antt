@@ -5,7 +5,7 @@ use Rattle.prem_image.specs.declared.image.TaskRecord.{TaskRecord}
 use Rattle.prem_image.specs.declared.image.DeviceRecord.{DeviceRecord}
 use Rattle.prem_report.specs.Report.{in_turn}
 use Rattle.prem_chart.specs.declared.view.View.{View}
-use Rattle.prem_chart.specs.declared.view.Sheet.{Sheet}
+use Rattle.prem_chart.specs.declared.view.Canvas.{Canvas}
 use Rattle.prem_chart.specs.Pieces.{Piece, text_of, words, number, escaped}
 use Rattle.prem_chart.specs.Places.{place, task_top, idle_top, bus_top}
 use Rattle.prem_chart.specs.Head.{device_key}
@@ -43,7 +43,7 @@ unfoldable pub every_text : (y period : ℕ) → List ℕ
 every_text y period = text_of (every_pieces y period)
 
 -- of a task
-abbrev pub task_label : Sheet → ℕ → TaskRecord → List ℕ
+abbrev pub task_label : Canvas → ℕ → TaskRecord → List ℕ
 task_label s k t =
     owner_text t.name ++ (jobs_told t.period t.jobs ++ (name_start (task_top s k + 280) ++ (escaped t.name ++ (every_text (task_top s k + 410) t.period ++ base_text (task_top s k + 430)))))
 
@@ -58,13 +58,13 @@ abbrev pub plain_label : List ℕ → (y below : ℕ) → List ℕ
 plain_label row y below = name_start y ++ plain_end row below
 
 -- of idle time, and of the bus
-abbrev pub idle_label : Sheet → List ℕ
+abbrev pub idle_label : Canvas → List ℕ
 idle_label s = plain_label (codes "idle") (idle_top s + 215) (idle_top s + 240)
 
-abbrev pub bus_label : Sheet → List ℕ
+abbrev pub bus_label : Canvas → List ℕ
 bus_label s = plain_label (codes "bus") (bus_top s + 275) (bus_top s + 360)
 
-unfoldable pub labels_text : Sheet → List TaskRecord → List ℕ
+unfoldable pub labels_text : Canvas → List TaskRecord → List ℕ
 labels_text s tasks = each_text (task_label s) tasks ++ (idle_label s ++ bus_label s)
 
 -- ---- releases and deadlines
@@ -90,10 +90,10 @@ arrow_pieces x y = words (codes "<path class=\"release\" d=\"M") ∷ number x �
 unfoldable pub arrow_path : (x y : ℕ) → List ℕ
 arrow_path x y = text_of (arrow_pieces x y)
 
-abbrev pub arrow_text : Sheet → (k cycle : ℕ) → List ℕ
+abbrev pub arrow_text : Canvas → (k cycle : ℕ) → List ℕ
 arrow_text s k cycle = cycle_told cycle ++ arrow_path (place s.view cycle) (task_top s k + 40)
 
-abbrev pub release_shown : Sheet → ℕ → List ℕ → (period job : ℕ) → List ℕ
+abbrev pub release_shown : Canvas → ℕ → List ℕ → (period job : ℕ) → List ℕ
 release_shown s k task period job =
     if is_marked s.view (job * period) then owner_text task ++ (release_told job ++ arrow_text s k (job * period)) else []
 
@@ -110,17 +110,17 @@ last_pieces jobs = words (codes ": deadline of job ") ∷ number (jobs - 1) ∷ 
 unfoldable pub deadline_told : ℕ → List ℕ
 deadline_told jobs = text_of (last_pieces jobs)
 
-abbrev pub deadline_text : Sheet → (k jobs cycle : ℕ) → List ℕ
+abbrev pub deadline_text : Canvas → (k jobs cycle : ℕ) → List ℕ
 deadline_text s k jobs cycle = deadline_told jobs ++ (cycle_told cycle ++ deadline_path (place s.view cycle) (task_top s k + 40))
 
-abbrev pub deadline_shown : Sheet → ℕ → List ℕ → (period jobs : ℕ) → List ℕ
+abbrev pub deadline_shown : Canvas → ℕ → List ℕ → (period jobs : ℕ) → List ℕ
 deadline_shown s k task period jobs =
     if is_marked s.view (jobs * period) then owner_text task ++ deadline_text s k jobs (jobs * period) else []
 
-abbrev pub releases_text : Sheet → ℕ → TaskRecord → List ℕ
+abbrev pub releases_text : Canvas → ℕ → TaskRecord → List ℕ
 releases_text s k t = in_turn (release_shown s k t.name t.period) t.jobs ++ deadline_shown s k t.name t.period t.jobs
 
-unfoldable pub all_releases : Sheet → List TaskRecord → List ℕ
+unfoldable pub all_releases : Canvas → List TaskRecord → List ℕ
 all_releases s tasks = each_text (releases_text s) tasks
 
 -- ---- keys to devices

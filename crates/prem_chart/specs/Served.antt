@@ -7,7 +7,7 @@ use Rattle.prem_sound.specs.Serve.Requests.{PutWords}
 use Rattle.prem_sound.specs.Sound.{AreInputs}
 use Rattle.prem_tasks.specs.Broken.{TaskSet, broken}
 use Rattle.prem_tasks.specs.Compiled.{compiled}
-use Rattle.prem_sets_sound.specs.Accepted.Accepted.{HasValues, setup_in}
+use Rattle.prem_sets_sound.specs.ImagePremises.Accepted.{HasValues, setup_in}
 use Rattle.prem_latency.specs.Images.{ServesDevice}
 use Rattle.prem_time.specs.declared.promises.Promise.{Promise}
 use Rattle.prem_time.specs.Words.{AreDistances, Distance}

@@ -26,7 +26,7 @@ use crate::keeping::stray_in;
 use crate::picture::chart;
 use crate::tracing::trace;
 use crate::view::View;
-use crate::words::Asked;
+use crate::words::PictureAsked;
 use prem_answer::{Answer, Halt, Status};
 use prem_command::chart::ChartWords;
 use prem_compile::{Compiled, TaskSet};
@@ -131,7 +131,7 @@ fn stray(alloc: Global, name: &[u8]) -> Result<Answer, AllocError>
 /// The picture of the run of a compiled set, with what is promised.
 fn drawn<P: Policy>(
     alloc: Global,
-    asked: &Asked,
+    asked: &PictureAsked,
     set: &TaskSet,
     input: &RunInput,
     compiled: &Compiled,
@@ -164,9 +164,9 @@ fn drawn<P: Policy>(
 }
 
 /// The answer to a compiled set: a device that it hasn't got, requests that don't keep their distance, or the picture.
-fn told<P: Policy>(
+fn picture_answer<P: Policy>(
     alloc: Global,
-    asked: &Asked,
+    asked: &PictureAsked,
     distances: &[Distance],
     devices: &[Device],
     requests: &[Request],
@@ -195,7 +195,7 @@ fn told<P: Policy>(
 /// What draws the run of a set, as the words ask for it.
 #[derive(Drop)]
 pub(crate) struct Drawing<'a> {
-    pub asked: &'a Asked<'a>,
+    pub asked: &'a PictureAsked<'a>,
 }
 
 impl Teller for Drawing<'_> {
@@ -210,7 +210,7 @@ impl Teller for Drawing<'_> {
         input: &RunInput,
         compiled: &Compiled,
     ) -> Result<Answer, AllocError> {
-        told::<P>(
+        picture_answer::<P>(
             alloc,
             self.asked,
             &self.asked.distances,
@@ -227,7 +227,7 @@ impl Teller for Drawing<'_> {
 /// first of these stages that doesn't go through decides.
 pub(crate) fn chart_answer<S: Store>(
     alloc: Global,
-    asked: &Asked,
+    asked: &PictureAsked,
     store: &mut S,
 ) -> Result<Answer, Halt>
     requires { AreDistances (distances_in asked.now.distances.items) }

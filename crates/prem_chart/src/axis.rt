@@ -4,7 +4,7 @@ ghost use Rattle.prem_chart.specs.Places.{IsView};
 ghost use Rattle.prem_chart.specs.Axis.{axis_name, axis_text, fitting, grid_text, multiples_before, tick_shown, tick_step, tick_text, ticks_text};
 
 use crate::placing::{axis_top, place, rows_top};
-use crate::view::Sheet;
+use crate::view::Canvas;
 use std::alloc::{AllocError, Global};
 
 /// From one number of the axis to the next, in cycles: round ones, in order.
@@ -96,7 +96,7 @@ fn multiples_before(step: u64, cycle: u64) -> u64
 
 /// A line at this place.
 #[tactic(auto, unfolding(crate::specs::Axis::grid_text))]
-fn grid_text(alloc: Global, sheet: Sheet, x: u32) -> Result<String, AllocError>
+fn grid_text(alloc: Global, sheet: Canvas, x: u32) -> Result<String, AllocError>
     ensures { IfOk result (λ s. string_bytes s ≡ grid_text sheet x) }
 {
     let (top, bottom) = (rows_top(sheet), axis_top(sheet) + 40);
@@ -105,7 +105,7 @@ fn grid_text(alloc: Global, sheet: Sheet, x: u32) -> Result<String, AllocError>
 
 /// Its number.
 #[tactic(auto, unfolding(crate::specs::Axis::tick_text))]
-fn tick_text(alloc: Global, sheet: Sheet, x: u32, cycle: u64) -> Result<String, AllocError>
+fn tick_text(alloc: Global, sheet: Canvas, x: u32, cycle: u64) -> Result<String, AllocError>
     ensures { IfOk result (λ s. string_bytes s ≡ tick_text sheet x cycle) }
 {
     let y = axis_top(sheet) + 190;
@@ -116,7 +116,7 @@ fn tick_text(alloc: Global, sheet: Sheet, x: u32, cycle: u64) -> Result<String, 
 fn push_tick(
     alloc: Global,
     text: &mut Vec<u8>,
-    sheet: Sheet,
+    sheet: Canvas,
     multiple: u64,
     step: u64,
 ) -> Result<(), AllocError>
@@ -138,7 +138,7 @@ fn push_tick(
 fn push_ticks(
     alloc: Global,
     text: &mut Vec<u8>,
-    sheet: Sheet,
+    sheet: Canvas,
     step: u64,
     count: u32,
 ) -> Result<(), AllocError>
@@ -155,7 +155,7 @@ fn push_ticks(
 
 /// What the numbers are.
 #[tactic(auto, unfolding(crate::specs::Axis::axis_name))]
-fn axis_name(alloc: Global, sheet: Sheet) -> Result<String, AllocError>
+fn axis_name(alloc: Global, sheet: Canvas) -> Result<String, AllocError>
     ensures { IfOk result (λ s. string_bytes s ≡ axis_name sheet) }
 {
     let y = axis_top(sheet) + 400;
@@ -164,7 +164,7 @@ fn axis_name(alloc: Global, sheet: Sheet) -> Result<String, AllocError>
 
 /// The axis of a picture.
 #[tactic(auto, unfolding(crate::specs::Axis::axis_text))]
-pub(crate) fn push_axis(alloc: Global, text: &mut Vec<u8>, sheet: Sheet) -> Result<(), AllocError>
+pub(crate) fn push_axis(alloc: Global, text: &mut Vec<u8>, sheet: Canvas) -> Result<(), AllocError>
     requires { IsView sheet.view }
     ensures { OnOk result (text.new.items ≡ text.old.items ++ axis_text sheet) }
 {

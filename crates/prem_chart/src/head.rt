@@ -4,7 +4,7 @@ ghost use Rattle.prem_chart.specs.Head.{bus_text, cache_text, device_key, key_na
 
 use crate::placing::height_of;
 use crate::text::push_escaped;
-use crate::view::Sheet;
+use crate::view::Canvas;
 use std::alloc::{AllocError, Global};
 
 /// How all looks. The colours are told apart by those who don't see all of them: after Okabe and Ito.
@@ -36,7 +36,7 @@ pub const KEYS: &str =
 
 /// The size of a picture.
 #[tactic(auto, unfolding(crate::specs::Head::size_text))]
-fn size_text(alloc: Global, sheet: Sheet) -> Result<String, AllocError>
+fn size_text(alloc: Global, sheet: Canvas) -> Result<String, AllocError>
     ensures { IfOk result (λ s. string_bytes s ≡ size_text sheet) }
 {
     let height = height_of(sheet);
@@ -48,7 +48,7 @@ fn size_text(alloc: Global, sheet: Sheet) -> Result<String, AllocError>
 
 /// The ground below all.
 #[tactic(auto, unfolding(crate::specs::Head::paper_text))]
-fn paper_text(alloc: Global, sheet: Sheet) -> Result<String, AllocError>
+fn paper_text(alloc: Global, sheet: Canvas) -> Result<String, AllocError>
     ensures { IfOk result (λ s. string_bytes s ≡ paper_text sheet) }
 {
     let height = height_of(sheet);
@@ -72,7 +72,11 @@ pub(crate) fn push_keys(text: &mut Vec<u8>) -> Result<(), AllocError>
 }
 
 /// The beginning of a picture, up to its ground.
-pub(crate) fn push_ground(alloc: Global, text: &mut Vec<u8>, sheet: Sheet) -> Result<(), AllocError>
+pub(crate) fn push_ground(
+    alloc: Global,
+    text: &mut Vec<u8>,
+    sheet: Canvas,
+) -> Result<(), AllocError>
     ensures { OnOk result (text.new.items ≡ text.old.items ++ (size_text sheet ++ (style_text ++ paper_text sheet))) }
 {
     text.extend_from_slice(size_text(alloc, sheet)?.as_bytes())?;

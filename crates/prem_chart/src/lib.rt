@@ -28,4 +28,4 @@ pub use prem_answer::Status;
 pub use shapes::{push_intervals, push_transfers};
 pub use top::draw;
 pub use tracing::{Traced, trace};
-pub use view::{Bar, Look, Sheet, View};
+pub use view::{Bar, Canvas, Look, View};

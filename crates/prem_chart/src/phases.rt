@@ -8,7 +8,7 @@ use crate::bars::{cycle_told, push_owner, push_shape};
 use crate::note::Note;
 use crate::placing::{bar_of, bus_top, idle_top, is_shown, place, task_top};
 use crate::shapes::task_name;
-use crate::view::{Bar, Look, Sheet};
+use crate::view::{Bar, Canvas, Look};
 use prem_gate::Window;
 use prem_image::TaskRecord;
 use std::alloc::{AllocError, Global};
@@ -17,7 +17,7 @@ use std::alloc::{AllocError, Global};
 pub(crate) fn push_shown(
     alloc: Global,
     text: &mut Vec<u8>,
-    sheet: Sheet,
+    sheet: Canvas,
     first: u64,
     cycles: u64,
     owner: &str,
@@ -52,7 +52,7 @@ fn phase_told(alloc: Global, cycles: u64, first: u64) -> Result<String, AllocErr
 fn push_phase(
     alloc: Global,
     text: &mut Vec<u8>,
-    sheet: Sheet,
+    sheet: Canvas,
     tasks: &[TaskRecord],
     k: u16,
     window: Window,
@@ -94,7 +94,7 @@ fn idle_told(alloc: Global, cycles: u64, first: u64) -> Result<String, AllocErro
 fn push_idle(
     alloc: Global,
     text: &mut Vec<u8>,
-    sheet: Sheet,
+    sheet: Canvas,
     window: Window,
 ) -> Result<(), AllocError>
     requires { IsView sheet.view }
@@ -119,7 +119,7 @@ fn open_told(alloc: Global, cycles: u64, first: u64) -> Result<String, AllocErro
 fn push_open(
     alloc: Global,
     text: &mut Vec<u8>,
-    sheet: Sheet,
+    sheet: Canvas,
     window: Window,
 ) -> Result<(), AllocError>
     requires { IsView sheet.view }
@@ -136,7 +136,7 @@ fn push_open(
 fn push_window(
     alloc: Global,
     text: &mut Vec<u8>,
-    sheet: Sheet,
+    sheet: Canvas,
     tasks: &[TaskRecord],
     note: Note,
 ) -> Result<(), AllocError>
@@ -160,7 +160,7 @@ fn push_window(
 pub(crate) fn push_windows(
     alloc: Global,
     text: &mut Vec<u8>,
-    sheet: Sheet,
+    sheet: Canvas,
     tasks: &[TaskRecord],
     notes: &[Note],
 ) -> Result<(), AllocError>
@@ -193,7 +193,7 @@ fn miss_path(alloc: Global, x: u32, y: u32) -> Result<String, AllocError>
 fn push_miss_mark(
     alloc: Global,
     text: &mut Vec<u8>,
-    sheet: Sheet,
+    sheet: Canvas,
     k: u16,
     cycle: u64,
 ) -> Result<(), AllocError>
@@ -210,7 +210,7 @@ fn push_miss_mark(
 fn push_miss(
     alloc: Global,
     text: &mut Vec<u8>,
-    sheet: Sheet,
+    sheet: Canvas,
     tasks: &[TaskRecord],
     note: Note,
 ) -> Result<(), AllocError>
@@ -233,7 +233,7 @@ fn push_miss(
 pub(crate) fn push_misses(
     alloc: Global,
     text: &mut Vec<u8>,
-    sheet: Sheet,
+    sheet: Canvas,
     tasks: &[TaskRecord],
     notes: &[Note],
 ) -> Result<(), AllocError>

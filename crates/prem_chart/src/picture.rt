@@ -14,7 +14,7 @@ use crate::phases::{push_misses, push_windows};
 use crate::promises::push_promises;
 use crate::rows::{push_device_keys, push_labels, push_releases};
 use crate::shapes::{push_intervals, push_transfers};
-use crate::view::{Sheet, View};
+use crate::view::{Canvas, View};
 use prem_cycle::{Facts, Stop};
 use prem_gate::Request;
 use prem_image::{DeviceRecord, TaskRecord};
@@ -55,7 +55,7 @@ fn push_counts(
 fn push_head(
     alloc: Global,
     text: &mut Vec<u8>,
-    sheet: Sheet,
+    sheet: Canvas,
     set: &str,
     devices: &[DeviceRecord],
     facts: &Facts,
@@ -77,7 +77,7 @@ fn push_head(
 fn push_frame(
     alloc: Global,
     text: &mut Vec<u8>,
-    sheet: Sheet,
+    sheet: Canvas,
     tasks: &[TaskRecord],
 ) -> Result<(), AllocError>
     requires view { IsView sheet.view }
@@ -93,7 +93,7 @@ fn push_frame(
 fn push_rows(
     alloc: Global,
     text: &mut Vec<u8>,
-    sheet: Sheet,
+    sheet: Canvas,
     tasks: &[TaskRecord],
     devices: &[DeviceRecord],
     facts: &Facts,
@@ -136,7 +136,7 @@ fn drawn(
     requires promises { length promises.now ≤ 65535 }
     ensures { IfOk result (λ text. text.items ≡ chart_text view set.now tasks.now devices.now (report_in facts.now) cycles stop notes.now requests.now promises.now) }
 {
-    let sheet = Sheet {
+    let sheet = Canvas {
         view,
         tasks: tasks.len() as u16,
         devices: devices.len() as u16,

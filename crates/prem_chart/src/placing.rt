@@ -2,7 +2,7 @@
 ghost use Rattle.std.specs.Prelude.{◌≡◌, ◌≤◌, ◌+◌, ◌^◌};
 ghost use Rattle.prem_chart.specs.Places.{IsView, axis_top, bar_of, behind_in, bus_top, height_of, held, idle_top, is_inside, place, promise_top, rows_top, task_top};
 
-use crate::view::{Bar, Look, Sheet, View};
+use crate::view::{Bar, Canvas, Look, View};
 
 /// The beginning of the line of time, and its length, in tenths of a unit.
 const TIME_LEFT: u64 = 1400;
@@ -72,7 +72,7 @@ pub(crate) fn bar_of(view: View, look: Look, y: u32, height: u32, first: u64, cy
 }
 
 /// The upper edge of the first row.
-pub(crate) fn rows_top(sheet: Sheet) -> u32
+pub(crate) fn rows_top(sheet: Canvas) -> u32
     ensures is { result ≡ rows_top sheet }
     ensures small { result ≤ 2 ^ 24 }
 {
@@ -80,7 +80,7 @@ pub(crate) fn rows_top(sheet: Sheet) -> u32
 }
 
 /// The upper edge of the row of a task.
-pub(crate) fn task_top(sheet: Sheet, k: u16) -> u32
+pub(crate) fn task_top(sheet: Canvas, k: u16) -> u32
     ensures is { result ≡ task_top sheet k }
     ensures small { result ≤ 2 ^ 30 }
 {
@@ -88,7 +88,7 @@ pub(crate) fn task_top(sheet: Sheet, k: u16) -> u32
 }
 
 /// The upper edge of the row of idle time.
-pub(crate) fn idle_top(sheet: Sheet) -> u32
+pub(crate) fn idle_top(sheet: Canvas) -> u32
     ensures is { result ≡ idle_top sheet }
     ensures small { result ≤ 2 ^ 30 }
 {
@@ -96,7 +96,7 @@ pub(crate) fn idle_top(sheet: Sheet) -> u32
 }
 
 /// The upper edge of the row of the bus.
-pub(crate) fn bus_top(sheet: Sheet) -> u32
+pub(crate) fn bus_top(sheet: Canvas) -> u32
     ensures is { result ≡ bus_top sheet }
     ensures small { result ≤ 2 ^ 30 }
 {
@@ -104,7 +104,7 @@ pub(crate) fn bus_top(sheet: Sheet) -> u32
 }
 
 /// The upper edge of a row for what is promised to a device.
-pub(crate) fn promise_top(sheet: Sheet, row: u16) -> u32
+pub(crate) fn promise_top(sheet: Canvas, row: u16) -> u32
     ensures is { result ≡ promise_top sheet row }
     ensures small { result ≤ 2 ^ 30 }
 {
@@ -112,7 +112,7 @@ pub(crate) fn promise_top(sheet: Sheet, row: u16) -> u32
 }
 
 /// The upper edge of the axis, below the rows.
-pub(crate) fn axis_top(sheet: Sheet) -> u32
+pub(crate) fn axis_top(sheet: Canvas) -> u32
     ensures is { result ≡ axis_top sheet }
     ensures small { result ≤ 2 ^ 30 }
 {
@@ -120,7 +120,7 @@ pub(crate) fn axis_top(sheet: Sheet) -> u32
 }
 
 /// The height of the picture.
-pub(crate) fn height_of(sheet: Sheet) -> u32
+pub(crate) fn height_of(sheet: Canvas) -> u32
     ensures { result ≡ height_of sheet }
 {
     rows_top(sheet) + 520 * (u32::from(sheet.tasks) + u32::from(sheet.promised)) + 1340

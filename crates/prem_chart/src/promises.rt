@@ -10,7 +10,7 @@ use crate::placing::{bar_of, promise_top};
 use crate::rows::{base_text, name_start};
 use crate::shapes::device_name;
 use crate::text::push_escaped;
-use crate::view::{Bar, Look, Sheet};
+use crate::view::{Bar, Canvas, Look};
 use prem_gate::Request;
 use prem_image::DeviceRecord;
 use prem_time::Promise;
@@ -54,7 +54,7 @@ fn within_text(alloc: Global, y: u32, wait: Option<u64>) -> Result<String, Alloc
 fn push_promise_name(
     alloc: Global,
     text: &mut Vec<u8>,
-    sheet: Sheet,
+    sheet: Canvas,
     row: u16,
     device: &str,
     promise: Promise,
@@ -73,7 +73,7 @@ fn push_promise_name(
 fn push_promise_label(
     alloc: Global,
     text: &mut Vec<u8>,
-    sheet: Sheet,
+    sheet: Canvas,
     devices: &[DeviceRecord],
     row: u16,
     promise: Promise,
@@ -95,7 +95,7 @@ fn request_told(alloc: Global, line: u32, wait: u64, cycle: u64) -> Result<Strin
 }
 
 /// The bar of a request, from the cycle in which it comes to its last moment.
-fn request_bar(sheet: Sheet, row: u16, level: u8, wait: u64, request: &Request) -> Bar
+fn request_bar(sheet: Canvas, row: u16, level: u8, wait: u64, request: &Request) -> Bar
     requires { IsView sheet.view }
     ensures { result ≡ request_bar sheet row level wait request.now }
 {
@@ -108,7 +108,7 @@ fn request_bar(sheet: Sheet, row: u16, level: u8, wait: u64, request: &Request) 
 fn push_request(
     alloc: Global,
     text: &mut Vec<u8>,
-    sheet: Sheet,
+    sheet: Canvas,
     devices: &[DeviceRecord],
     row: u16,
     level: u8,
@@ -153,7 +153,7 @@ fn level_of(behind: u128, level: u8, cycle: u64) -> u8
 fn push_requests(
     alloc: Global,
     text: &mut Vec<u8>,
-    sheet: Sheet,
+    sheet: Canvas,
     devices: &[DeviceRecord],
     requests: &[Request],
     cycles: u64,
@@ -180,7 +180,7 @@ fn push_requests(
 fn push_row(
     alloc: Global,
     text: &mut Vec<u8>,
-    sheet: Sheet,
+    sheet: Canvas,
     devices: &[DeviceRecord],
     requests: &[Request],
     cycles: u64,
@@ -210,7 +210,7 @@ fn push_row(
 fn push_promise(
     alloc: Global,
     text: &mut Vec<u8>,
-    sheet: Sheet,
+    sheet: Canvas,
     devices: &[DeviceRecord],
     requests: &[Request],
     cycles: u64,
@@ -228,7 +228,7 @@ fn push_promise(
 fn push_promise_at(
     alloc: Global,
     text: &mut Vec<u8>,
-    sheet: Sheet,
+    sheet: Canvas,
     devices: &[DeviceRecord],
     requests: &[Request],
     cycles: u64,
@@ -249,7 +249,7 @@ fn push_promise_at(
 pub(crate) fn push_promises(
     alloc: Global,
     text: &mut Vec<u8>,
-    sheet: Sheet,
+    sheet: Canvas,
     devices: &[DeviceRecord],
     requests: &[Request],
     cycles: u64,

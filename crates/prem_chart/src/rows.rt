@@ -10,7 +10,7 @@ use crate::bars::{cycle_told, push_owner};
 use crate::head::push_device_key;
 use crate::placing::{bus_top, idle_top, place, task_top};
 use crate::text::push_escaped;
-use crate::view::{Sheet, View};
+use crate::view::{Canvas, View};
 use prem_image::{DeviceRecord, TaskRecord};
 use std::alloc::{AllocError, Global};
 
@@ -52,7 +52,7 @@ fn every_text(alloc: Global, y: u32, period: u32) -> Result<String, AllocError>
 fn push_task_label(
     alloc: Global,
     text: &mut Vec<u8>,
-    sheet: Sheet,
+    sheet: Canvas,
     k: u16,
     task: &TaskRecord,
 ) -> Result<(), AllocError>
@@ -71,7 +71,7 @@ fn push_task_label(
 fn push_task_label_at(
     alloc: Global,
     text: &mut Vec<u8>,
-    sheet: Sheet,
+    sheet: Canvas,
     tasks: &[TaskRecord],
     k: u16,
 ) -> Result<(), AllocError>
@@ -87,7 +87,7 @@ fn push_task_label_at(
 fn push_task_labels(
     alloc: Global,
     text: &mut Vec<u8>,
-    sheet: Sheet,
+    sheet: Canvas,
     tasks: &[TaskRecord],
     count: u16,
 ) -> Result<(), AllocError>
@@ -127,7 +127,7 @@ fn push_plain_label(
 pub(crate) fn push_labels(
     alloc: Global,
     text: &mut Vec<u8>,
-    sheet: Sheet,
+    sheet: Canvas,
     tasks: &[TaskRecord],
     count: u16,
 ) -> Result<(), AllocError>
@@ -179,7 +179,7 @@ fn arrow_path(alloc: Global, x: u32, y: u32) -> Result<String, AllocError>
 fn push_arrow(
     alloc: Global,
     text: &mut Vec<u8>,
-    sheet: Sheet,
+    sheet: Canvas,
     k: u16,
     cycle: u64,
 ) -> Result<(), AllocError>
@@ -195,7 +195,7 @@ fn push_arrow(
 fn push_release(
     alloc: Global,
     text: &mut Vec<u8>,
-    sheet: Sheet,
+    sheet: Canvas,
     k: u16,
     task: &str,
     period: u32,
@@ -234,7 +234,7 @@ fn deadline_told(alloc: Global, jobs: u32) -> Result<String, AllocError>
 fn push_deadline_mark(
     alloc: Global,
     text: &mut Vec<u8>,
-    sheet: Sheet,
+    sheet: Canvas,
     k: u16,
     jobs: u32,
     cycle: u64,
@@ -252,7 +252,7 @@ fn push_deadline_mark(
 fn push_deadline(
     alloc: Global,
     text: &mut Vec<u8>,
-    sheet: Sheet,
+    sheet: Canvas,
     k: u16,
     task: &str,
     period: u32,
@@ -273,7 +273,7 @@ fn push_deadline(
 fn push_task_releases(
     alloc: Global,
     text: &mut Vec<u8>,
-    sheet: Sheet,
+    sheet: Canvas,
     k: u16,
     task: &TaskRecord,
 ) -> Result<(), AllocError>
@@ -296,7 +296,7 @@ fn push_task_releases(
 fn push_jobs(
     alloc: Global,
     text: &mut Vec<u8>,
-    sheet: Sheet,
+    sheet: Canvas,
     k: u16,
     task: &TaskRecord,
 ) -> Result<(), AllocError>
@@ -313,7 +313,7 @@ fn push_jobs(
 fn push_task_releases_at(
     alloc: Global,
     text: &mut Vec<u8>,
-    sheet: Sheet,
+    sheet: Canvas,
     tasks: &[TaskRecord],
     k: u16,
 ) -> Result<(), AllocError>
@@ -331,7 +331,7 @@ fn push_task_releases_at(
 pub(crate) fn push_releases(
     alloc: Global,
     text: &mut Vec<u8>,
-    sheet: Sheet,
+    sheet: Canvas,
     tasks: &[TaskRecord],
     count: u16,
 ) -> Result<(), AllocError>

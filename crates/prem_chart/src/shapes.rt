@@ -9,7 +9,7 @@ ghost use Rattle.prem_chart.specs.Shapes.{interval_bar, interval_look, interval_
 
 use crate::bars::push_shape;
 use crate::placing::{bar_of, bus_top, is_shown, task_top};
-use crate::view::{Bar, Look, Sheet};
+use crate::view::{Bar, Canvas, Look};
 use prem_cycle::EndedInterval;
 use prem_gate::Transfer;
 use prem_image::{DeviceRecord, TaskRecord};
@@ -57,7 +57,7 @@ fn interval_look(predictable: bool) -> Look
 }
 
 /// The bar of an interval.
-fn interval_bar(sheet: Sheet, ended: &EndedInterval) -> Bar
+fn interval_bar(sheet: Canvas, ended: &EndedInterval) -> Bar
     requires { IsView sheet.view }
     ensures { result ≡ interval_bar sheet ended.now }
 {
@@ -91,7 +91,7 @@ fn interval_told(alloc: Global, ended: &EndedInterval) -> Result<String, AllocEr
 fn push_interval(
     alloc: Global,
     text: &mut Vec<u8>,
-    sheet: Sheet,
+    sheet: Canvas,
     tasks: &[TaskRecord],
     ended: &EndedInterval,
 ) -> Result<(), AllocError>
@@ -114,7 +114,7 @@ fn push_interval(
 pub fn push_intervals(
     alloc: Global,
     text: &mut Vec<u8>,
-    sheet: Sheet,
+    sheet: Canvas,
     tasks: &[TaskRecord],
     intervals: &[EndedInterval],
 ) -> Result<(), AllocError>
@@ -130,7 +130,7 @@ pub fn push_intervals(
 }
 
 /// The bar of a transfer of so many cycles.
-fn transfer_bar(sheet: Sheet, cost: u32, ended: &Transfer) -> Bar
+fn transfer_bar(sheet: Canvas, cost: u32, ended: &Transfer) -> Bar
     requires { IsView sheet.view }
     ensures { result ≡ transfer_bar sheet cost ended.now }
 {
@@ -163,7 +163,7 @@ fn transfer_told(alloc: Global, cost: u32, ended: &Transfer) -> Result<String, A
 fn push_transfer(
     alloc: Global,
     text: &mut Vec<u8>,
-    sheet: Sheet,
+    sheet: Canvas,
     devices: &[DeviceRecord],
     ended: &Transfer,
 ) -> Result<(), AllocError>
@@ -187,7 +187,7 @@ fn push_transfer(
 pub fn push_transfers(
     alloc: Global,
     text: &mut Vec<u8>,
-    sheet: Sheet,
+    sheet: Canvas,
     devices: &[DeviceRecord],
     transfers: &[Transfer],
 ) -> Result<(), AllocError>

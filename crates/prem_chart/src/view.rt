@@ -9,7 +9,7 @@ pub struct View {
 
 /// The window of a picture, and how many tasks, devices and promises have their place in it.
 #[derive(Clone, Copy, PartialEq, Eq, Debug)]
-pub struct Sheet {
+pub struct Canvas {
     pub view: View,
     pub tasks: u16,
     pub devices: u16,

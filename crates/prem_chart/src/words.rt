@@ -21,7 +21,7 @@ pub(crate) struct Parted {
 
 /// What picture is asked for, and how far apart the requests of some devices are.
 #[derive(Drop)]
-pub(crate) struct Asked<'a> {
+pub(crate) struct PictureAsked<'a> {
     pub(crate) chart: ChartWords<'a>,
     pub(crate) distances: Vec<Distance<'a>>,
 }
@@ -68,11 +68,11 @@ fn asked_plain<'a>(
     alloc: Global,
     chart: ChartWords<'a>,
     every: &'a [String],
-) -> Result<Option<Asked<'a>>, AllocError>
+) -> Result<Option<PictureAsked<'a>>, AllocError>
     ensures { IfOk result (λ asked. option_map asked_in asked ≡ with_distances (chart_asked chart.entry) (distances_behind (map string_bytes every.now) [])) }
 {
     match distances_in(alloc, every)? {
-        Some(distances) => Ok(Some(Asked { chart, distances })),
+        Some(distances) => Ok(Some(PictureAsked { chart, distances })),
         None => Ok(None),
     }
 }
@@ -83,7 +83,7 @@ pub(crate) fn asked_of<'a>(
     plain: &'a [String],
     every: &'a [String],
     behind: bool,
-) -> Result<Option<Asked<'a>>, AllocError>
+) -> Result<Option<PictureAsked<'a>>, AllocError>
     ensures { IfOk result (λ asked. option_map asked_in asked ≡ asked_by (map string_bytes plain.now) (map string_bytes every.now) behind) }
 {
     if behind {

@@ -13,7 +13,7 @@ use Rattle.prem_plant.specs.Ranges.{IsPlant}
 use Rattle.prem_foot.specs.declared.want.Want.{Want}
 use Rattle.prem_color.specs.declared.moving.Placing.{Placing}
 use Rattle.prem_color.specs.declared.room.Room.{Room as RoomInMemory}
-use Rattle.prem_color.specs.declared.room.Cache.{Cache}
+use Rattle.prem_color.specs.declared.room.CacheShape.{CacheShape}
 use Rattle.prem_color.specs.Offsets.{PartRange, moved_place, least_from, offset_of, moved_from, moved_places}
 use Rattle.prem_color.specs.Rooms.{Room, no_lines, ranges_of_part, all_fit, rooms_after, AreRooms, LiesIn, no_part}
 use Rattle.prem_color.specs.RoomOf.{room_of}
@@ -47,7 +47,7 @@ nothing_placed p wants sizes places rooms plant none are =
 -- ---- one part more
 
 -- what the cache of a plant is, where the next part may stand, and which wants have ranges in it
-pub record IsNext (p : Plant) (ws : List (List PartRange)) (s : Placing) (part : PartSize) (n : ℕ) (k : Cache) (base : ℕ) (shares : List Share) : Type 0 where
+pub record IsNext (p : Plant) (ws : List (List PartRange)) (s : Placing) (part : PartSize) (n : ℕ) (k : CacheShape) (base : ℕ) (shares : List Share) : Type 0 where
   pub plant : IsPlant p
   pub line : k.line ≡ p.line
   pub sets : k.sets ≡ p.sets
@@ -56,7 +56,7 @@ pub record IsNext (p : Plant) (ws : List (List PartRange)) (s : Placing) (part :
   pub shares_are : shares ≡ shares_from n 0 ws
   pub long : length (map room_of s.rooms.items) ≡ length ws
 
-module _ (p : Plant) (ws : List (List PartRange)) (sizes : List PartSize) (s : Placing) (part : PartSize) (n : ℕ) (k : Cache) (base : ℕ)
+module _ (p : Plant) (ws : List (List PartRange)) (sizes : List PartSize) (s : Placing) (part : PartSize) (n : ℕ) (k : CacheShape) (base : ℕ)
     (shares : List Share) (i : IsNext p ws s part n k base shares) (h : IsPlacing p ws sizes n s) where
   abbrev rooms : List Room
   rooms = map room_of s.rooms.items

@@ -17,7 +17,7 @@ ghost use Rattle.prem_color.specs.WantOf.{ranges_in};
 
 use crate::claims::{Claim, PartRange, Share, claims_by_part, shares_of};
 use crate::fail::ColorFail;
-use crate::room::{Cache, Room};
+use crate::room::{CacheShape, Room};
 use prem_foot::Want;
 use prem_plant::{Layout, PartSize, Plant};
 use std::alloc::{AllocError, Global};
@@ -48,7 +48,7 @@ fn fits_one(
     room: &Room,
     own: &[PartRange],
     address: u64,
-    cache: Cache,
+    cache: CacheShape,
 ) -> Result<bool, AllocError>
     requires address { address ≤ 2 ^ 60 }
     requires line { 1 ≤ cache.line }
@@ -66,7 +66,7 @@ fn shares_fit(
     rooms: &[Room],
     shares: &[Share],
     address: u64,
-    cache: Cache,
+    cache: CacheShape,
 ) -> Result<bool, AllocError>
     requires address { address ≤ 2 ^ 60 }
     requires line { 1 ≤ cache.line }
@@ -89,7 +89,7 @@ fn offset(
     rooms: &[Room],
     shares: &[Share],
     base: u64,
-    cache: Cache,
+    cache: CacheShape,
 ) -> Result<Option<u64>, AllocError>
     requires base { base ≤ 2 ^ 59 }
     requires line { 1 ≤ cache.line }
@@ -114,7 +114,7 @@ fn take_one(
     room: &mut Room,
     own: &[PartRange],
     address: u64,
-    cache: Cache,
+    cache: CacheShape,
 ) -> Result<(), AllocError>
     requires address { address ≤ 2 ^ 60 }
     requires line { 1 ≤ cache.line }
@@ -135,7 +135,7 @@ fn take_all(
     rooms: &mut Vec<Room>,
     shares: &[Share],
     address: u64,
-    cache: Cache,
+    cache: CacheShape,
 ) -> Result<(), AllocError>
     requires address { address ≤ 2 ^ 60 }
     requires line { 1 ≤ cache.line }
@@ -186,12 +186,12 @@ fn no_places(alloc: Global, wants: &[Want]) -> Result<Placing, AllocError>
 }
 
 /// What the cache of a plant is.
-fn cache_of(p: &Plant) -> Cache
+fn cache_of(p: &Plant) -> CacheShape
     ensures line { result.line ≡ p.now.line }
     ensures sets { result.sets ≡ p.now.sets }
     ensures ways { result.«ways» ≡ p.now.«ways» }
 {
-    Cache {
+    CacheShape {
         line: u64::from(p.line),
         sets: u64::from(p.sets),
         ways: p.ways,

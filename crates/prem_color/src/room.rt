@@ -18,7 +18,7 @@ pub(crate) struct Room {
 
 /// The bytes of a line, the sets of the cache, and the lines that go into one.
 #[derive(Clone, Copy)]
-pub(crate) struct Cache {
+pub(crate) struct CacheShape {
     pub line: u64,
     pub sets: u64,
     pub ways: u32,
@@ -66,7 +66,7 @@ impl Room {
     }
 
     /// The room with the lines of more ranges that aren't among those so far, or none where one of them finds its set full.
-    pub(crate) fn with_ranges(&self, ranges: &[(u64, u64)], cache: Cache) -> Option<Room>
+    pub(crate) fn with_ranges(&self, ranges: &[(u64, u64)], cache: CacheShape) -> Option<Room>
         requires line { 1 ≤ cache.line }
         requires some { 1 ≤ cache.sets }
         requires most { cache.sets ≤ 1024 }

@@ -3,6 +3,7 @@ use Rattle.std.specs.List.{AllByRecursion}
 use Rattle.std.proofs.Common.{◌≡◌, ℕ, List, [], ◌∷◌, length, map, refl, ap, sym, ◌∙◌, subst, arith, Vec, Global}
 use Rattle.std.proofs.lemmas.List.Elements.{recursion_from_All}
 use Rattle.std.proofs.lemmas.List.{length-map}
+use Rattle.prem_list.specs.Sequence.{items_of}
 use Rattle.prem_plant.specs.declared.plant.Plant.{Plant}
 use Rattle.prem_plant.specs.declared.plant.Target.{Target}
 use Rattle.prem_plant.specs.declared.plant.Device.{Device}
@@ -10,18 +11,23 @@ use Rattle.prem_plant.specs.declared.layout.PartSize.{PartSize}
 use Rattle.prem_plant.specs.Label.{IsName, AreDistinct}
 use Rattle.prem_plant.specs.Places.{Extent, ArePlaces}
 use Rattle.prem_plant.specs.Ranges.{Between, IsPlant}
+use Rattle.prem_image.specs.Text.{image_text}
 use Rattle.prem_syntax.specs.Syntax.{ProgramText}
+use Rattle.prem_syntax.specs.Name.{name_bytes}
 use Rattle.prem_ranges.specs.RangesKept.{bounded}
-use Rattle.prem_layout.specs.Placed.{Coded, parts_of, placed_from}
+use Rattle.prem_layout.specs.Bounds.{JobBound, limit_of}
+use Rattle.prem_layout.specs.Image.{image_of}
+use Rattle.prem_layout.specs.Placed.{Coded, Placed, parts_of, placed_from}
 use Rattle.prem_place.specs.Content.Blocks.{Words, block_of}
 use Rattle.prem_place.specs.declared.content.content.Block.{Block}
-use Rattle.prem_place.specs.Placed.PlacedOf.{coded_of}
+use Rattle.prem_place.specs.Placed.PlacedOf.{coded_of, placed_of}
 use Rattle.prem_place.specs.declared.placed.PlacedTask.{PlacedTask}
 use Rattle.prem_place.specs.Placing.Standing.{stands_in}
 use Rattle.prem_place.specs.Words.Far.{words_in}
 use Rattle.prem_place.specs.BuildImage.Built as built
 use Rattle.prem_place.specs.BuildImage.Built.{HasRanges, HaveBlocks, IsBuilt}
 use Rattle.prem_place.specs.Totals.Limits.{HasJobs}
+use Rattle.prem_place.specs.Verdict.Told.{numbered}
 use Rattle.prem_tasks.specs.Broken.{TaskText, TaskSet, coded_one, programs_of}
 use Rattle.prem_tasks.specs.Broken as tasks
 use Rattle.prem_tasks.specs.Lawful as lawful

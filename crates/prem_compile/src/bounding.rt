@@ -7,7 +7,7 @@ ghost use Rattle.prem_compile.specs.Joined.{HasCode, HasPlaces};
 ghost use Rattle.prem_compile.specs.Bounding.{EndsBoundsAt, EndsBounds};
 
 use crate::coding::{coded_tasks, parts_of_tasks};
-use crate::late::{blocks_of, bounds_of_placed, places_of};
+use crate::placed_stages::{blocks_of, bounds_of_placed, places_of};
 use prem_place::placing::{CodedTask, PlacedTask, place_all};
 use prem_place::verdict::TaskBounds;
 use prem_plant::{Layout, PartSize};
@@ -16,7 +16,7 @@ use prem_tasks::{Stop, TaskSet};
 use std::alloc::Global;
 
 /// The rules on jumps, conflicts and bounds, and the bounds where none is broken.
-fn bounds_behind_places(
+fn bounds_at_places(
     alloc: Global,
     set: &TaskSet,
     parts: &[PartSize],
@@ -33,7 +33,7 @@ fn bounds_behind_places(
 }
 
 /// The tasks at the places of their parts, and what comes behind them.
-fn bounds_behind_layout(
+fn bounds_in_layout(
     alloc: Global,
     set: &TaskSet,
     tasks: Vec<CodedTask>,
@@ -48,11 +48,11 @@ fn bounds_behind_layout(
 {
     let plant = set.plant();
     let placed = place_all(alloc, tasks, &layout, plant)?;
-    bounds_behind_places(alloc, set, parts, layout, &placed)
+    bounds_at_places(alloc, set, parts, layout, &placed)
 }
 
 /// The rule on memory, the default places of all parts, and what comes behind them.
-fn bounds_behind_code(
+fn bounds_of_coded(
     alloc: Global,
     set: &TaskSet,
     tasks: Vec<CodedTask>,
@@ -63,7 +63,7 @@ fn bounds_behind_code(
     let plant = set.plant();
     let parts = parts_of_tasks(alloc, set, &tasks)?;
     let layout = places_of(alloc, &parts, plant)?;
-    bounds_behind_layout(alloc, set, tasks, &parts, layout)
+    bounds_in_layout(alloc, set, tasks, &parts, layout)
 }
 
 /// The bounds of the marked functions of each task, with that of its jobs, or the first rule up to bounds that the set
@@ -76,5 +76,5 @@ pub fn bounds_of_set(alloc: Global, set: &TaskSet) -> Result<Vec<TaskBounds>, St
 {
     let programs = checked_programs(alloc, set)?;
     let tasks = coded_tasks(alloc, set, &programs)?;
-    bounds_behind_code(alloc, set, tasks)
+    bounds_of_coded(alloc, set, tasks)
 }

@@ -106,7 +106,7 @@ fn parts_with(
 }
 
 /// The parts of tasks with their code.
-fn parts_behind(alloc: Global, set: &TaskSet, tasks: &[CodedTask]) -> Result<Parts, AllocError>
+fn parts_of_coded(alloc: Global, set: &TaskSet, tasks: &[CodedTask]) -> Result<Parts, AllocError>
     requires { HasCode (set_of set.now) tasks.now }
     ensures { IfOk result (AreParts (set_of set.now)) }
 {
@@ -121,7 +121,7 @@ fn stages(alloc: Global, set: &TaskSet) -> Result<Parts, Stop>
 {
     let programs = checked_programs(alloc, set)?;
     let tasks = coded_tasks(alloc, set, &programs)?;
-    let parts = parts_behind(alloc, set, &tasks)?;
+    let parts = parts_of_coded(alloc, set, &tasks)?;
     Ok(parts)
 }
 

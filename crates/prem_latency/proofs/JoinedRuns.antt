@@ -11,9 +11,9 @@ use Rattle.prem_sound.specs.Sound.{AreInputs}
 use Rattle.prem_sound.specs.Scopes.Charged.{Scoping, IsScoped, charges_by, IsCharged}
 use Rattle.prem_sound.specs.Scopes.Strands.{ends as over, dids_along, scoping_of}
 use Rattle.prem_sets_sound.specs.Weave.Weave.{dids_of, calls_of}
-use Rattle.prem_sets_sound.specs.StubLaws.Join.Joined.{JobLimits, IsJoined}
+use Rattle.prem_sets_sound.specs.StubLaws.JoinedRuns.Joined.{JobLimits, IsJoined}
 use Rattle.prem_sets_sound.specs.StubLaws.Charges.Charges.{script_of}
-use Rattle.prem_sets_sound.proofs.StubLawsLemmas.JoinLemmas.Joined.{chosen, Scripted, joined_script, run_fits, scripts_join, runs}
+use Rattle.prem_sets_sound.proofs.StubLawsLemmas.JoinedRunsLemmas.Joined.{chosen, Scripted, joined_script, run_fits, scripts_join, runs}
 use Rattle.prem_sets_sound.proofs.StubLawsLemmas.ChargesLemmas.Images.{conforms, script as joined_of, script_calls, calls_most, charged_strand}
 use Rattle.prem_resp.specs.declared.busy.load.Load.{Load}
 use Rattle.prem_resp.specs.Deadline.Deadlines.{AreLoads}

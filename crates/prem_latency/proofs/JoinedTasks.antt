@@ -11,7 +11,7 @@ use Rattle.prem_sound.specs.Script.Conforms.{KeepsCalls, Conforms}
 use Rattle.prem_sound.specs.Paced.Paced.{within_job, within_stretch}
 use Rattle.prem_sound.proofs.ScriptLemmas.Begins.{Executed, executed, did_lawful}
 use Rattle.prem_sets_sound.specs.Weave.Weave.{dids_of, calls_of}
-use Rattle.prem_sets_sound.specs.StubLaws.Join.Joined.{TaskJoins}
+use Rattle.prem_sets_sound.specs.StubLaws.JoinedRuns.Joined.{TaskJoins}
 use Rattle.prem_sets_sound.proofs.WeaveLemmas.Woven.{woven_runs_conform}
 use Rattle.prem_sound.specs.Scopes.Scopes.{charge_of}
 use Rattle.prem_sound.specs.Scopes.Strands.{Strand, ends, runs, calls, last_change, calls_begun, scope_due, ChargedFrom}

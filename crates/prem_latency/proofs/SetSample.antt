@@ -19,8 +19,8 @@ use Rattle.prem_layout.specs.Image.{task_record}
 use Rattle.prem_layout.specs.Placed.{Placed, part_total}
 use Rattle.prem_tasks.specs.Compiled.{coded_in, places_in}
 use Rattle.prem_tasks.specs.At.{placed_by, compiled_at}
-use Rattle.prem_sets_sound.proofs.AcceptedLemmas.Sample.{net, sample, sample_values, sample_breaks_nothing}
-use Rattle.prem_sets_sound.proofs.AcceptedLemmas.Whole.{default_places_are_lawful, accepted_sets_are_laid_out}
+use Rattle.prem_sets_sound.proofs.ImagePremisesLemmas.Sample.{net, sample, sample_values, sample_breaks_nothing}
+use Rattle.prem_sets_sound.proofs.ImagePremisesLemmas.Whole.{default_places_are_lawful, accepted_sets_are_laid_out}
 use Rattle.prem_sets_sound.proofs.PlacesSoundLemmas.At.{default_is_at}
 use Rattle.prem_latency.specs.Wcet.Tasks.{task_wcet}
 use Rattle.prem_latency.specs.Wcet.Sets.{wcet_at, stretch_at, closed_at}

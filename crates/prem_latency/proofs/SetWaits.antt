@@ -15,14 +15,14 @@ use Rattle.prem_layout.specs.Placed.{Coded, part_total, sized_of}
 use Rattle.prem_layout.proofs.Areas.{areas_stand, records_long}
 use Rattle.prem_tasks.specs.Compiled.{coded_in}
 use Rattle.prem_tasks.specs.At.{placed_by}
-use Rattle.prem_sets_sound.specs.Accepted.Accepted.{IsLaidOut}
+use Rattle.prem_sets_sound.specs.ImagePremises.Accepted.{IsLaidOut}
 use Rattle.prem_sets_sound.specs.PlacesSound.At.{promises_at}
 use Rattle.prem_sets_sound.proofs.Sound.{as_stubs_make, meant_tasks_join}
 use Rattle.prem_sets_sound.proofs.PlacesSoundLemmas.At.{groups, laid_out, tasks_are_meant}
-use Rattle.prem_sets_sound.proofs.AcceptedLemmas.Whole.{laid_out_images_join}
-use Rattle.prem_sets_sound.proofs.AcceptedLemmas.Records.{are_laid}
+use Rattle.prem_sets_sound.proofs.ImagePremisesLemmas.Whole.{laid_out_images_join}
+use Rattle.prem_sets_sound.proofs.ImagePremisesLemmas.Records.{are_laid}
 use Rattle.prem_sets_sound.proofs.StubLawsLemmas.OwnLemmas.Owned.{parts_long}
-use Rattle.prem_sets_sound.proofs.EachLemmas.Words.{all_there}
+use Rattle.prem_sets_sound.proofs.TaskRunsLemmas.Words.{all_there}
 use Rattle.prem_latency.specs.Wcet.Sets.{wcet_at, stretch_at, closed_at}
 use Rattle.prem_latency.proofs.WcetLemmas.Sets.{meant_tasks_shut_by_wcet}
 use Rattle.prem_latency.specs.declared.wait.Asking.{Asking}

@@ -13,7 +13,7 @@ use Rattle.prem_sound.specs.Script.Scripts.{Promise}
 use Rattle.prem_sound.specs.Script.Conforms.{GoesOrDone, GoesOrEnds, IsStretch, IsCall}
 use Rattle.prem_sound.proofs.ScriptLemmas.Pieces.{stretches_keep, calls_keep}
 use Rattle.prem_sets_sound.specs.Weave.Weave.{Section, segment_of, IsSection, Weave, ends, goes, calls, dids_of, calls_of, IsWeave}
-use Rattle.prem_sets_sound.specs.StubLaws.Join.Joined.{JobLimits}
+use Rattle.prem_sets_sound.specs.StubLaws.JoinedRuns.Joined.{JobLimits}
 use Rattle.prem_sets_sound.specs.StubLaws.Charges.Charges.{script_of}
 use Rattle.prem_latency.specs.Wcet.Openings.{before_exec, touched_by, opening_of, shut_of, counts_of, AreTrimmed}
 use Rattle.prem_latency.specs.Wcet.Tasks.{script_by, TaskShuts}

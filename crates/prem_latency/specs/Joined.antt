@@ -12,8 +12,8 @@ use Rattle.prem_sound.specs.Script.Scripts.{Promise}
 use Rattle.prem_sound.specs.Resident.Faultless.{IsPolicy}
 use Rattle.prem_sound.specs.Sound.{AreInputs}
 use Rattle.prem_sets_sound.specs.Weave.Weave.{dids_of, calls_of}
-use Rattle.prem_sets_sound.specs.StubLaws.Join.Joined.{JobLimits, IsJoined}
-use Rattle.prem_sets_sound.specs.Each.Joins.{TaskPaces}
+use Rattle.prem_sets_sound.specs.StubLaws.JoinedRuns.Joined.{JobLimits, IsJoined}
+use Rattle.prem_sets_sound.specs.TaskRuns.Joins.{TaskPaces}
 use Rattle.prem_sound.specs.Scopes.Strands.{Strand, dids_along, IsStrand, ChargedFrom}
 use Rattle.prem_resp.specs.declared.busy.load.Load.{Load}
 use Rattle.prem_resp.specs.Busy.Busy.{load_at, IsBalanced}

@@ -10,7 +10,7 @@ use Rattle.prem_sound.specs.Serve.Requests.{PutWords, asked_of}
 use Rattle.prem_sound.specs.Sound.{AreInputs}
 use Rattle.prem_tasks.specs.Broken.{TaskSet}
 use Rattle.prem_tasks.specs.At.{placed_by, broken_at, compiled_at, AreLawfulFor}
-use Rattle.prem_sets_sound.specs.Accepted.Accepted.{HasValues}
+use Rattle.prem_sets_sound.specs.ImagePremises.Accepted.{HasValues}
 use Rattle.prem_resp.specs.declared.busy.load.Load.{Load}
 use Rattle.prem_resp.specs.Timed.Timed.{TellsCharges}
 use Rattle.prem_latency.specs.Wcet.Sets.{wcet_at, stretch_at, closed_at}

@@ -68,7 +68,7 @@ fn put_refusal(
 
 /// The answer to a set that breaks a rule.
 #[tactic(auto, unfolding(crate::specs::Answers::refusal_text))]
-fn told(
+fn diagnostic_answer(
     alloc: Global,
     name: &str,
     sources: &[Label],
@@ -96,7 +96,9 @@ fn judged(alloc: Global, name: &str, sources: &[Label], set: &TaskSet) -> Result
             status: Status::Done,
             text: Vec::new(alloc),
         }),
-        Err(CompileFail::Refused(refusal)) => Ok(told(alloc, name, sources, set, &refusal)?),
+        Err(CompileFail::Refused(refusal)) => Ok(diagnostic_answer(
+            alloc, name, sources, set, &refusal,
+        )?),
         Err(CompileFail::OutOfMemory) => Err(Halt::OutOfMemory),
     }
 }

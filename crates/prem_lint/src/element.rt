@@ -26,7 +26,7 @@ fn deeper(depth: usize, byte: u8) -> usize
 }
 
 /// Up to the bracket that closes the first one.
-fn through(text: &[u8]) -> &[u8]
+fn through_bracket(text: &[u8]) -> &[u8]
     ensures { result.now ≡ through 0 text.now }
 {
     let mut depth = 0;
@@ -52,7 +52,7 @@ pub(crate) fn element(text: &[u8]) -> &[u8]
 {
     match text {
         [] => b"an element",
-        [_, ..] => through(text),
+        [_, ..] => through_bracket(text),
     }
 }
 

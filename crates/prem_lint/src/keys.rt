@@ -97,7 +97,7 @@ fn is_header(line: &[u8]) -> bool
 
 /// The table behind a line that has no blanks in front.
 #[tactic(auto, unfolding(crate::specs::Keys::behind))]
-fn behind(p: Passed, line: &[u8]) -> Passed
+fn table_behind(p: Passed, line: &[u8]) -> Passed
     requires tasks { p.tasks < 2 ^ 32 }
     requires devices { p.devices < 2 ^ 32 }
     ensures same { result ≡ behind p line.now }
@@ -208,7 +208,7 @@ fn line_of(
     while !rest.is_empty() {
         let (whole, later) = first_line(rest);
         let line = without_blanks(whole);
-        passed = behind(passed, line);
+        passed = table_behind(passed, line);
         if is_sought(alloc, sought, path, passed.section, line)? {
             return Ok(Some(n));
         }

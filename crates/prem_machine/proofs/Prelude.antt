@@ -14,7 +14,7 @@ pub use Rattle.prem_cycle.specs.Inputs.{FitsRun, IsShortTrace, image_run, no_dev
 pub use Rattle.prem_cycle.specs.Issue.{Attempt, Executes, Issued, LineTouch, Traps, attempt_behind, attempt_fetched, attempt_in, attempt_of, attempt_seen, behind_touches, effect_in}
 pub use Rattle.prem_cycle.specs.Issue.{is_execution, is_memory, issued_by, issued_with, one_if, owed_by, stored_in, task_after, task_changed, task_moved, touched_with, value_of, view_behind}
 pub use Rattle.prem_cycle.specs.Issue.{view_touched, with_store, with_touch, with_touches}
-unfoldable pub use Rattle.prem_cycle.specs.Issue.{attempt_by}
+pub use Rattle.prem_cycle.specs.Issue.{attempt_by}
 pub use Rattle.prem_cycle.specs.Run.{CycleStep, step_by, step_in, step_with, wants_input_of, wants_word}
 unfoldable pub use Rattle.prem_cycle.specs.Run.{cycles_of}
 pub use Rattle.prem_cycle.specs.Runs.Dull.Dull.{AreDull, IsDull, IsNextEvent}

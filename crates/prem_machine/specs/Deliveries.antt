@@ -2,8 +2,8 @@
 use Rattle.prem_machine.specs.Prelude.{stop_of, cycles_of, wants_input_of, rule_in, ◌≡◌, ℕ, ◌+◌, ◌≤◌, ◌<◌, None, Some}
 use Rattle.prem_machine.specs.Silent.{ended_so_far}
 use Rattle.prem_machine.specs.States.{Running, with_state}
-use Rattle.prem_machine.specs.declared.machine.deliveries.Halt.{Halt}
-use Rattle.prem_machine.specs.declared.machine.deliveries.Halt.TheVariants.{Stops, Wants, Ended}
+use Rattle.prem_machine.specs.declared.machine.deliveries.DeliveryHalt.{DeliveryHalt}
+use Rattle.prem_machine.specs.declared.machine.deliveries.DeliveryHalt.TheVariants.{Stops, Wants, Ended}
 
 -- some cycles lead from one machine to another, up to a limit: none of them begins where an input word is wanted that isn't
 -- there, or where so many transfers have ended
@@ -19,7 +19,7 @@ pub record RunsSilently (limit transfers : ℕ) (from m : Running) : Type 0 wher
   pub ended : (k : ℕ) → k < cycles → ended_so_far (cycles_of (rule_in from.setup) from.setup from.requests k from.state) < transfers
 
 -- why they end there
-abbrev pub HaltsBy : (limit transfers : ℕ) → Running → Halt → Type 0
+abbrev pub HaltsBy : (limit transfers : ℕ) → Running → DeliveryHalt → Type 0
 HaltsBy limit transfers m (Stops stop) = stop_of limit m.state ≡ Some stop
 HaltsBy limit transfers m Ended = (stop_of limit m.state ≡ None) × (transfers ≤ ended_so_far m.state)
 HaltsBy limit transfers m (Wants k) =

@@ -12,7 +12,7 @@ use Rattle.prem_cycle.specs.FactsOf.{stop_of}
 use Rattle.prem_cycle.specs.Run.{cycles_of, wants_input_of}
 use Rattle.prem_machine.specs.States.{Running, with_state}
 use Rattle.prem_machine.specs.Deliveries.{HaltsBy, RunsSilently}
-use Rattle.prem_machine.specs.declared.machine.deliveries.Halt.TheVariants.{Wants}
+use Rattle.prem_machine.specs.declared.machine.deliveries.DeliveryHalt.TheVariants.{Wants}
 use Rattle.prem_machine.proofs.Going.{cycles_left, goes_less, goes_on, going_most, going_one}
 use Rattle.prem_mail.specs.declared.feed.Feed.{Feed}
 use Rattle.prem_mail.specs.Delivery.{ended_between}

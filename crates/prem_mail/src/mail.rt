@@ -14,7 +14,7 @@ use prem_gate::{RunInput, Transfer};
 use prem_image::Image;
 use prem_list::Sequence;
 use prem_lru::Policy;
-use prem_machine::{Halt, Machine};
+use prem_machine::{DeliveryHalt, Machine};
 use prem_plant::TaskId;
 use std::alloc::{AllocError, Global};
 use std::marker::Model;
@@ -317,7 +317,7 @@ impl<P: Policy> Mail<P> {
     }
 
     /// The machine goes on until it stops, has come to the limit, wants an input word, or so many transfers have ended.
-    fn advance(&mut self, limit: u64, transfers: usize) -> Halt
+    fn advance(&mut self, limit: u64, transfers: usize) -> DeliveryHalt
         requires now { (state_in self.old).now ≤ limit }
         requires limit { limit ≤ 2 ^ 61 }
         ensures runs { RunsSilently limit transfers (machine_in self.old) (machine_in self.new) }
@@ -340,8 +340,8 @@ impl<P: Policy> Mail<P> {
         let halt = self.advance(limit, transfers);
         self.receive(before);
         match halt {
-            Halt::Wants(task) => Ok(Some(task)),
-            Halt::Stops(_) | Halt::Ended => self.next(limit),
+            DeliveryHalt::Wants(task) => Ok(Some(task)),
+            DeliveryHalt::Stops(_) | DeliveryHalt::Ended => self.next(limit),
         }
     }
 

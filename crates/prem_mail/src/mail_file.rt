@@ -4,7 +4,7 @@ ghost use Rattle.prem_mail.specs.Feeds.{AreFeeds};
 ghost use Rattle.prem_mail.specs.MailFile.{feeds_of};
 ghost use Rattle.prem_mail.specs.Views.{GivesMail, line_fault};
 
-use crate::fail::{LineFail, MailFail};
+use crate::fail::{MailFail, MailLineFail};
 use crate::feed::Feed;
 use crate::reading::read_line;
 use prem_line::first_line;
@@ -12,12 +12,12 @@ use prem_set::run::Names;
 use std::alloc::Global;
 
 /// The n-th line's fault as one of the file.
-fn at_line(n: u32, fail: LineFail) -> MailFail
+fn at_line(n: u32, fail: MailLineFail) -> MailFail
     ensures { result ≡ line_fault n fail }
 {
     match fail {
-        LineFail::Refused(which) => MailFail::Line { n, which },
-        LineFail::OutOfMemory => MailFail::OutOfMemory,
+        MailLineFail::Refused(which) => MailFail::Line { n, which },
+        MailLineFail::OutOfMemory => MailFail::OutOfMemory,
     }
 }
 

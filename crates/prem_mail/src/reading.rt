@@ -5,7 +5,7 @@ ghost use Rattle.prem_line.specs.Failing.{Gives};
 ghost use Rattle.prem_mail.specs.MailFile.{feed_of, feed_words, fed_words, is_fed, last_word, line_read, words_read};
 ghost use Rattle.prem_mail.specs.Views.{feed_view};
 
-use crate::fail::{LineFail, MailWhich};
+use crate::fail::{MailLineFail, MailWhich};
 use crate::feed::Feed;
 use prem_line::{first_word, is_skipped, is_text, number};
 use prem_set::run::Names;
@@ -80,7 +80,7 @@ fn feed_of(names: &Names, feeds: &[Feed], words: &WordsOfFeed<'_>) -> Result<Fee
 
 /// Reads the words behind `feed`.
 #[tactic(auto, unfolding(crate::specs::MailFile::fed_words))]
-fn read_feed(names: &Names, feeds: &mut Vec<Feed>, line: &[u8]) -> Result<(), LineFail>
+fn read_feed(names: &Names, feeds: &mut Vec<Feed>, line: &[u8]) -> Result<(), MailLineFail>
     ensures { Gives (λ _. feeds.new.items) result (fed_words names.now feeds.old.items (words_of line.now)) }
 {
     let words = feed_words(line).ok_or(MailWhich::Word)?;
@@ -95,26 +95,30 @@ fn read_words(
     feeds: &mut Vec<Feed>,
     first: &[u8],
     line: &[u8],
-) -> Result<(), LineFail>
+) -> Result<(), MailLineFail>
     ensures { Gives (λ _. feeds.new.items) result (words_read names.now feeds.old.items first.now (words_of line.now)) }
 {
     if first == b"feed".as_slice() {
         read_feed(names, feeds, line)
     } else {
-        Err(LineFail::Refused(MailWhich::Word))
+        Err(MailLineFail::Refused(MailWhich::Word))
     }
 }
 
 /// Reads a line.
 #[tactic(auto, unfolding(crate::specs::MailFile::line_read))]
-pub(crate) fn read_line(names: &Names, feeds: &mut Vec<Feed>, line: &[u8]) -> Result<(), LineFail>
+pub(crate) fn read_line(
+    names: &Names,
+    feeds: &mut Vec<Feed>,
+    line: &[u8],
+) -> Result<(), MailLineFail>
     ensures { Gives (λ _. feeds.new.items) result (line_read names.now feeds.old.items line.now) }
 {
     if is_skipped(line) {
         return Ok(());
     }
     if !is_text(line) {
-        return Err(LineFail::Refused(MailWhich::Text));
+        return Err(MailLineFail::Refused(MailWhich::Text));
     }
     let (first, rest) = first_word(line).ok_or(MailWhich::Word)?;
     read_words(names, feeds, first, rest)

@@ -22,8 +22,8 @@ use Rattle.prem_layout.specs.Placed.{Coded, Placed, placed_at, placed_from, task
 use Rattle.prem_layout.specs.Rules.{Intervals, Outputs, log_room, total_of}
 use Rattle.prem_tasks.specs.Broken.{TaskText, TaskSet, broken, programs_of}
 use Rattle.prem_tasks.specs.Compiled.{coded_in, compiled, job_bounds, places_in, placed_in}
-use Rattle.prem_sets_sound.specs.Accepted.Accepted.{HasTextValues, HasValues, setup_in}
-use Rattle.prem_sets_sound.proofs.AcceptedLemmas.Follow.{keeps}
+use Rattle.prem_sets_sound.specs.ImagePremises.Accepted.{HasTextValues, HasValues, setup_in}
+use Rattle.prem_sets_sound.proofs.ImagePremisesLemmas.Follow.{keeps}
 use Rattle.prem_running.proofs.SetLawsLemmas.Limits.{InRange, IsSmall, bounds_are_small, eight_kept, two_kept}
 use Rattle.prem_pair_top.specs.Running.{due_in}
 use Rattle.prem_pair_top.specs.Sound.{PairLimitsAreSmall}

@@ -5,7 +5,7 @@ use Rattle.prem_line.proofs.Chain.{same_Ok}
 use Rattle.prem_plant.specs.declared.plant.Device.{Device}
 use Rattle.prem_cycle.specs.Inputs.{FitsRun}
 use Rattle.prem_tasks.specs.Broken.{TaskSet, broken}
-use Rattle.prem_sets_sound.specs.Accepted.Accepted.{setup_in}
+use Rattle.prem_sets_sound.specs.ImagePremises.Accepted.{setup_in}
 use Rattle.prem_set.specs.Run.Run.{Gathered, LineRefusal, run_of as lines_of_run}
 use Rattle.prem_set.specs.declared.fault.SetFail.{SetFail}
 use Rattle.prem_set.specs.SetFile.{SetData, set_of as set_of_text, task_names as entry_names}

@@ -26,11 +26,11 @@ use Rattle.prem_layout.specs.Placed.{Placed, part_total}
 use Rattle.prem_tasks.specs.Broken.{TaskSet, broken}
 use Rattle.prem_tasks.specs.Compiled.{coded_in, places_in, placed_in, job_bounds, compiled}
 use Rattle.prem_sets_sound.specs.StubLaws.Own.Owned.{own_of}
-use Rattle.prem_sets_sound.specs.StubLaws.Join.Joined.{IsJoined}
-use Rattle.prem_sets_sound.proofs.StubLawsLemmas.JoinLemmas.Joined.{scripted, are_scripts, limits}
-use Rattle.prem_sets_sound.specs.Accepted.Accepted.{HasValues, limits_at, setup_in}
+use Rattle.prem_sets_sound.specs.StubLaws.JoinedRuns.Joined.{IsJoined}
+use Rattle.prem_sets_sound.proofs.StubLawsLemmas.JoinedRunsLemmas.Joined.{scripted, are_scripts, limits}
+use Rattle.prem_sets_sound.specs.ImagePremises.Accepted.{HasValues, limits_at, setup_in}
 use Rattle.prem_sets_sound.specs.Meant.{promises_in}
-use Rattle.prem_sets_sound.proofs.AcceptedLemmas.Whole.{accepted_sets_are_laid_out, accepted_sets_join, default_places_are_lawful}
+use Rattle.prem_sets_sound.proofs.ImagePremisesLemmas.Whole.{accepted_sets_are_laid_out, accepted_sets_join, default_places_are_lawful}
 use Rattle.prem_sets_sound.proofs.Sound.{accepted_tasks_are_meant, as_stubs_make, meant_tasks_join}
 use Rattle.prem_exec.specs.Forms.{RunText}
 use Rattle.prem_running.specs.RunSound.Runs.{SuitsRun}

@@ -8,7 +8,7 @@ use Rattle.prem_pair.specs.Cycles.Pair.{PairState, pair_stop_of}
 use Rattle.prem_pair.specs.Laws.PairSound.{PairIsSound}
 use Rattle.prem_tasks.specs.Broken.{TaskSet, broken}
 use Rattle.prem_tasks.specs.Compiled.{compiled}
-use Rattle.prem_sets_sound.specs.Accepted.Accepted.{HasValues, setup_in}
+use Rattle.prem_sets_sound.specs.ImagePremises.Accepted.{HasValues, setup_in}
 use Rattle.prem_sets_sound.specs.Meant.{promises_in}
 use Rattle.prem_exec.specs.Forms.{RunText}
 use Rattle.prem_running.specs.RunSound.Runs.{SuitsRun}

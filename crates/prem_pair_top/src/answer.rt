@@ -52,7 +52,7 @@ fn uncompiled(alloc: Global, core: u8, set: &TaskSet, fail: CompileFail) -> Resu
 }
 
 /// The answer to two sets that break no rule: their run is told.
-fn told(
+fn told_answer(
     alloc: Global,
     asked: &PairWords<'_>,
     sets: &Sets<'_>,
@@ -94,7 +94,7 @@ fn sets_answer(alloc: Global, asked: &PairWords<'_>, sets: &Sets<'_>) -> Result<
         Err(fail) => return uncompiled(alloc, 0, sets.one, fail),
     };
     match compile(alloc, sets.two) {
-        Ok(two) => Ok(told(alloc, asked, sets, &one, &two)?),
+        Ok(two) => Ok(told_answer(alloc, asked, sets, &one, &two)?),
         Err(fail) => uncompiled(alloc, 1, sets.two, fail),
     }
 }

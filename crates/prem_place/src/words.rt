@@ -26,7 +26,7 @@ pub struct FarJump {
 }
 
 /// Why tasks have no words: a jump is out of reach, or there was no memory.
-pub type WordsFail = Failing<FarJump>;
+pub type ReachFail = Failing<FarJump>;
 
 /// The addresses of a task's parts.
 fn starts(alloc: Global, t: &PlacedTask) -> Result<Vec<u32>, AllocError>
@@ -77,7 +77,7 @@ fn function_of(t: &PlacedTask, part: usize) -> FnId
 }
 
 /// The words of all tasks, or the first task that has a jump out of reach.
-pub fn words_of_all(alloc: Global, tasks: &[PlacedTask]) -> Result<Vec<Vec<Block>>, WordsFail>
+pub fn words_of_all(alloc: Global, tasks: &[PlacedTask]) -> Result<Vec<Vec<Block>>, ReachFail>
     requires stands { AllByRecursion stands_in tasks.now }
     requires count { length tasks.now ≤ 16 }
     ensures ends { EndsFar (map placed_of tasks.now) result }
@@ -88,12 +88,12 @@ pub fn words_of_all(alloc: Global, tasks: &[PlacedTask]) -> Result<Vec<Vec<Block
         match task_words(alloc, &tasks[n]) {
             Ok(blocks) => all.push(blocks)?,
             Err(FlatFail::Refused(part)) => {
-                return Err(WordsFail::Refused(FarJump {
+                return Err(ReachFail::Refused(FarJump {
                     task: n as u16,
                     function: function_of(&tasks[n], part),
                 }));
             }
-            Err(FlatFail::OutOfMemory) => return Err(WordsFail::OutOfMemory),
+            Err(FlatFail::OutOfMemory) => return Err(ReachFail::OutOfMemory),
         }
     }
     Ok(all)

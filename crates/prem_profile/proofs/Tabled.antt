@@ -1,7 +1,7 @@
 -- The lines that are made for the tasks of a set are those of its code.
 use Rattle.std.specs.Prelude.{slice_get, slice_index, slice_index_or, is_some}
 use Rattle.std.specs.Option.{option_map}
-use Rattle.std.proofs.Common.{◌≡◌, ℕ, zero, suc, ◌+◌, List, [], ◌∷◌, Option, None, Some, length, map, drop, cond, refl, ap, ap₂, sym, ◌∙◌}
+use Rattle.std.proofs.Common.{◌≡◌, ℕ, zero, suc, ◌+◌, List, [], ◌∷◌, Option, None, Some, length, map, drop, cond, refl, ap, ap₂, sym, ◌∙◌, arith}
 use Rattle.prem_list.specs.Sequence.{items_of}
 use Rattle.prem_plant.specs.declared.plant.Target.{Target}
 use Rattle.prem_syntax.specs.Syntax.{ProgramText}
@@ -10,20 +10,19 @@ use Rattle.prem_syntax.specs.SyntaxOf.{mark_of}
 use Rattle.prem_tree.specs.declared.resolve.resolved.Routine.{Routine as RoutineTree}
 use Rattle.prem_tree.specs.declared.resolve.resolved.Resolved.{Resolved as ResolvedTree}
 use Rattle.prem_tree.specs.Resolve.ResolvedOf.{loops_of, resolved_of, routines_of}
-use Rattle.prem_ranges.specs.RangesKept.{turn_bounds}
 use Rattle.prem_plant.specs.Places.{default_places}
 use Rattle.prem_layout.specs.Rules.{LateRule, Refusal, or_else, over_tasks}
 use Rattle.prem_layout.specs.Broken.{broken_at_places, broken_late}
 use Rattle.prem_layout.specs.Placed.{parts_of}
+use Rattle.prem_prefetch.specs.declared.sizes.coded.CodedTask.{CodedTask}
+use Rattle.prem_prefetch.specs.Sizes.CodedOf.{coded_in as coded_task}
 use Rattle.prem_tasks.specs.Told.{Told}
 use Rattle.prem_tasks.specs.At.{broken_early, code_broken}
 use Rattle.prem_tasks.specs.Compiled.{coded_in}
-use Rattle.prem_tasks.specs.Broken.{TaskSet, broken, coded_of, text_rules, program_rules, range_rules, late_refusal, programs_of}
+use Rattle.prem_tasks.specs.Broken.{TaskSet, TaskText, broken, coded_of, text_rules, program_rules, range_rules, late_refusal, programs_of}
 use Rattle.prem_tasks.specs.SetOf.{task_of}
 use Rattle.prem_tasks.specs.declared.set.TaskText.{TaskText as TaskTree}
-use Rattle.prem_stages.specs.Resolving.{meant_by, text_by}
-use Rattle.prem_stages.specs.Coded.{IsCoded}
-use Rattle.prem_stages.specs.declared.front.Coded.{Coded}
+use Rattle.prem_compile.specs.Joined.{HasCode}
 use Rattle.prem_profile.specs.declared.lines.task.TaskLines.{TaskLines as TaskLinesTree}
 use Rattle.prem_profile.specs.Lines.Marks.{mark_lines}
 use Rattle.prem_profile.specs.Lines.Table.{function_lines}
@@ -80,27 +79,25 @@ module _ (target : Target) (turns : ℕ → ℕ) where
 
 -- ---- all tasks
 
-from_all : (target : Target) (ts : List TaskTree) (rs : List ResolvedTree) (ps : List ProgramText) → map meant_by rs ≡ map text_by ps →
-    tables_from target ts rs ≡ tasks_lines target (map task_of ts) (coded_of target (map task_of ts) ps)
-from_all target [] rs ps e = refl
-from_all target (t ∷ ts) [] [] e = refl
-from_all target (t ∷ ts) [] (p ∷ ps) e = absurd cc
-from_all target (t ∷ ts) (r ∷ rs) [] e = absurd cc
-from_all target (t ∷ ts) (r ∷ rs) (p ∷ ps) e =
-    let turns : ℕ → ℕ = slice_index (turn_bounds p) in
-    let first : meant_by r ≡ text_by p = ap (λ (xs : List ((ℕ → ℕ) → Resolved)). slice_index_or xs 0 (meant_by r)) e in
-    ap₂ (λ x xs. x ∷ xs) (tables_are target turns (mark_lines (items_of t.text)) r ∙ ap (λ (f : (ℕ → ℕ) → Resolved). task_lines target (mark_lines (items_of t.text)) (f turns)) first)
-    (from_all target ts rs ps (ap (drop 1) e))
+from_all : (target : Target) (ts : List TaskTree) (cs : List CodedTask) → tables_from target ts cs ≡ tasks_lines target (map task_of ts) (map coded_task cs)
+from_all target [] cs = refl
+from_all target (t ∷ ts) [] = refl
+from_all target (t ∷ ts) (c ∷ cs) =
+    ap₂ (λ x xs. x ∷ xs) (tables_are target (slice_index c.turns.items) (mark_lines (items_of t.text)) c.program) (from_all target ts cs)
 
-pub lines_are : (set : TaskSet) (target : Target) (ts : List TaskTree) (rs : List ResolvedTree) (c : Coded) (lines : List TaskLines) → target ≡ set.plant.target → map task_of ts ≡ set.tasks →
-    rs ≡ c.resolved.items → IsCoded set c → lines ≡ tables_from target ts rs → lines ≡ set_lines set
-lines_are set target ts rs c lines et es er is e =
-    e ∙ from_all target ts rs (programs_of set.tasks) (ap (map meant_by) er ∙ is.resolved_are)
-    ∙ (λ i. tasks_lines (et i) (es i) (coded_of (et i) (es i) (programs_of set.tasks)))
+coded_length : (target : Target) (ts : List TaskText) (ps : List ProgramText) → length ps ≡ length ts → length (coded_of target ts ps) ≡ length ts
+coded_length target [] ps e = refl
+coded_length target (t ∷ ts) [] e = absurd cc
+coded_length target (t ∷ ts) (p ∷ ps) e = let less : length ps ≡ length ts = omega (arith, e) in ap suc (coded_length target ts ps less)
 
-pub counted : (set : TaskSet) (ts : List TaskTree) (rs : List ResolvedTree) (c : Coded) → map task_of ts ≡ set.tasks → rs ≡ c.resolved.items → IsCoded set c → length rs ≡ length ts
-counted set ts rs c es er is =
-    ap length er ∙ sym (mapped_length meant_by c.resolved.items) ∙ ap length is.resolved_are ∙ mapped_length text_by (programs_of set.tasks) ∙ is.count
+pub lines_are : (set : TaskSet) (target : Target) (ts : List TaskTree) (cs told : List CodedTask) (lines : List TaskLines) → target ≡ set.plant.target → map task_of ts ≡ set.tasks →
+    told ≡ cs → HasCode set cs → lines ≡ tables_from target ts told → lines ≡ set_lines set
+lines_are set target ts cs told lines et es er h e =
+    e ∙ ap (tables_from target ts) er ∙ from_all target ts cs ∙ (λ i. tasks_lines (et i) (es i) (h.tasks_are.same i))
+
+pub counted : (set : TaskSet) (ts : List TaskTree) (cs told : List CodedTask) → map task_of ts ≡ set.tasks → told ≡ cs → HasCode set cs → length told ≡ length ts
+counted set ts cs told es er h =
+    ap length er ∙ sym (mapped_length coded_task cs) ∙ ap length h.tasks_are.same ∙ coded_length set.plant.target set.tasks (programs_of set.tasks) h.as_many
     ∙ ap length (sym es) ∙ mapped_length task_of ts
 
 -- ---- rules

@@ -17,7 +17,7 @@ use Rattle.prem_cycle.specs.Runs.Dull.Dull.{AreDull, OnlyCounts, left_in, with_s
 use Rattle.prem_profile.specs.declared.cost.Cost.{Cost}
 use Rattle.prem_profile.specs.declared.home.Home.{Home}
 use Rattle.prem_profile.specs.declared.home.Home.TheVariants.{Rest, Switch, At}
-use Rattle.prem_profile.specs.declared.tracing.Seen.{Seen}
+use Rattle.prem_profile.specs.declared.tracing.StateBefore.{StateBefore}
 use Rattle.prem_profile.specs.Spent.{backs_in, cost_with, cycle_cost, home_after, home_of, home_with, misses_in, no_cost, plus, spent, spent_in_all, waiting_home, where_so}
 use Rattle.prem_profile.specs.Totals.{TotalsAreReported}
 use Rattle.prem_profile.specs.Issuer.{coming_pc, issuer_in, pc_at}
@@ -465,12 +465,12 @@ grows rule p requests (suc n) s =
     record { now = omega (arith, now, from); misses = omega (arith, misses, more_misses); backs = omega (arith, backs, more_backs) }
 
 -- what is seen before cycles is no more than behind them
-pub record IsBefore (b : Seen) (t : MachineState) : Type 0 where
+pub record IsBefore (b : StateBefore) (t : MachineState) : Type 0 where
   pub now : b.now ≤ t.now
   pub misses : b.misses ≤ t.log.counts.misses
   pub backs : b.backs ≤ t.log.counts.writebacks
 
-pub seen_before : (rule : ReplacementRule) (p : Setup) (requests : List Request) (n : ℕ) (b : Seen) (before : Home) (s t : MachineState) → b ≡ seen_of before s → t ≡ cycles_of rule p requests n s →
+pub seen_before : (rule : ReplacementRule) (p : Setup) (requests : List Request) (n : ℕ) (b : StateBefore) (before : Home) (s t : MachineState) → b ≡ seen_of before s → t ≡ cycles_of rule p requests n s →
     IsBefore b t
 seen_before rule p requests n b before s t is there =
     let h = grows rule p requests n s in

@@ -9,7 +9,7 @@ use Rattle.prem_cycle.specs.Run.{cycles_of}
 use Rattle.prem_profile.specs.declared.cost.Cost.{Cost}
 use Rattle.prem_profile.specs.declared.home.Home.{Home}
 use Rattle.prem_profile.specs.declared.home.Home.TheVariants.{At}
-use Rattle.prem_profile.specs.declared.tracing.Seen.{Seen}
+use Rattle.prem_profile.specs.declared.tracing.StateBefore.{StateBefore}
 use Rattle.prem_profile.specs.Spent.{home_after, spent, waiting_home, where_so}
 use Rattle.prem_profile.specs.Issuer.{coming_pc}
 
@@ -20,7 +20,7 @@ is_point (Running k) = false
 is_point (Idle until) = false
 
 -- what a state gives to what is seen behind it
-abbrev pub seen_of : Home → MachineState → Seen
+abbrev pub seen_of : Home → MachineState → StateBefore
 seen_of before s = record {
   now = s.now;
   pc = coming_pc s;
@@ -31,13 +31,13 @@ seen_of before s = record {
 }
 
 -- an instruction was executed where lines were touched: each touches that of its fetch
-abbrev pub has_executed : Seen → MachineState → Bool
+abbrev pub has_executed : StateBefore → MachineState → Bool
 has_executed b t = nat_lt b.hits t.log.counts.hits || nat_lt b.misses t.log.counts.misses
 
-abbrev pub seen_home : Seen → MachineState → Home
+abbrev pub seen_home : StateBefore → MachineState → Home
 seen_home b t = if has_executed b t then At b.pc else b.waiting
 
-abbrev pub seen_cost : Seen → MachineState → Cost
+abbrev pub seen_cost : StateBefore → MachineState → Cost
 seen_cost b t = record {
   instructions = if has_executed b t then 1 else 0;
   cycles = t.now - b.now;

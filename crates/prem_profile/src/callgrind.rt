@@ -255,7 +255,7 @@ fn front(costs: &[Cost], count: usize) -> &[Cost]
 }
 
 /// The costs behind the first so many.
-fn behind(costs: &[Cost], count: usize) -> &[Cost]
+fn costs_behind(costs: &[Cost], count: usize) -> &[Cost]
     ensures { result.now ≡ drop count costs.now }
 {
     if count < costs.len() {
@@ -279,7 +279,7 @@ fn push_strips(
     'strips: for strip in strips {
         let count = strip.count as usize;
         push_strip(alloc, text, sources, strip, front(left, count))?;
-        left = behind(left, count);
+        left = costs_behind(left, count);
     }
     Ok(())
 }
@@ -370,7 +370,7 @@ fn push_machine(
     push_cost_line(alloc, text, 0, cost_at(costs, 1))?;
     push_nowhere_head(text)?;
     push_cost_line(alloc, text, 0, cost_at(costs, 0))?;
-    push_switches(alloc, text, sources, behind(costs, 2))
+    push_switches(alloc, text, sources, costs_behind(costs, 2))
 }
 
 /// A profile of strips of tasks with these sources, with the costs of all rows, and of all together.
@@ -386,7 +386,7 @@ pub fn profile_text(
     let mut text = Vec::new(alloc);
     push_head(alloc, &mut text, total)?;
     push_machine(alloc, &mut text, sources, costs)?;
-    let rows = behind(behind(costs, 2), sources.len());
+    let rows = costs_behind(costs_behind(costs, 2), sources.len());
     push_strips(alloc, &mut text, sources, strips, rows)?;
     push_total(alloc, &mut text, total)?;
     Ok(text)

@@ -15,8 +15,9 @@ ghost use Rattle.prem_profile.specs.Strips.{strip_of};
 use crate::lines::{TaskLines, mark_lines, part_lines, task_lines};
 use crate::strip::Strip;
 use prem_compile::Compiled;
+use prem_compile::coding::{CodedTask, coded_tasks};
 use prem_plant::{PartKind, PartSize, Target};
-use prem_stages::{checked_programs, coded_programs};
+use prem_stages::checked_programs;
 use prem_syntax::Name;
 use prem_tasks::{Stop, TaskSet, TaskText};
 use prem_tree::resolve::Resolved;
@@ -35,19 +36,19 @@ fn lines_of(
     task_lines(alloc, target, &marks, program)
 }
 
-/// The lines of the code of tasks, whose programs stand in the same order.
+/// The lines of the code of tasks, which stand in the order of their texts.
 fn tables_of(
     alloc: Global,
     target: Target,
     tasks: &[TaskText],
-    programs: &[Resolved<'_>],
+    coded: &[CodedTask],
 ) -> Result<Vec<TaskLines>, AllocError>
-    requires { length programs.now ≡ length tasks.now }
-    ensures { IfOk result (λ all. map lines_told all.items ≡ tables_from target tasks.now programs.now) }
+    requires { length coded.now ≡ length tasks.now }
+    ensures { IfOk result (λ all. map lines_told all.items ≡ tables_from target tasks.now coded.now) }
 {
     let mut all = Vec::new(alloc);
     'tasks: for n in 0..tasks.len() {
-        let lines = lines_of(alloc, target, &tasks[n], &programs[n])?;
+        let lines = lines_of(alloc, target, &tasks[n], &coded[n].program)?;
         all.push(lines)?;
     }
     Ok(all)
@@ -58,9 +59,9 @@ pub fn set_lines(alloc: Global, set: &TaskSet) -> Result<Vec<TaskLines>, Stop>
     ensures { MatchResult result (λ lines. map lines_told lines.items ≡ set_lines (set_of set.now)) (λ stop. Stops stop (broken_early (set_of set.now))) }
 {
     let programs = checked_programs(alloc, set)?;
-    let coded = coded_programs(alloc, set, &programs)?;
+    let coded = coded_tasks(alloc, set, &programs)?;
     let target = set.plant().target;
-    let lines = tables_of(alloc, target, set.tasks(), &coded.resolved)?;
+    let lines = tables_of(alloc, target, set.tasks(), &coded)?;
     Ok(lines)
 }
 

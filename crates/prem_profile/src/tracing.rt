@@ -28,7 +28,7 @@ use std::alloc::{AllocError, Global};
 
 /// What a machine before some cycles gives to what is seen behind them.
 #[derive(Clone, Copy, PartialEq, Eq, Debug)]
-pub struct Seen {
+pub struct StateBefore {
     pub now: u64,
     /// The address of the instruction that is executed, if one is.
     pub pc: u32,
@@ -108,10 +108,10 @@ fn coming_pc<P: Policy>(parts: &Parts<P>) -> u32
 }
 
 /// What the machine's parts give.
-fn parts_seen<P: Policy>(parts: &Parts<P>, before: Home) -> Seen
+fn parts_seen<P: Policy>(parts: &Parts<P>, before: Home) -> StateBefore
     ensures { result ≡ seen_of before (parts_state parts.entry.now) }
 {
-    Seen {
+    StateBefore {
         now: parts.now,
         pc: coming_pc(parts),
         waiting: waiting_home(parts, before),
@@ -122,14 +122,14 @@ fn parts_seen<P: Policy>(parts: &Parts<P>, before: Home) -> Seen
 }
 
 /// What a machine gives, behind a cycle with this home.
-fn seen_of<P: Policy>(machine: &Machine<P>, before: Home) -> Seen
+fn seen_of<P: Policy>(machine: &Machine<P>, before: Home) -> StateBefore
     ensures { result ≡ seen_of before (state_of machine.now) }
 {
     parts_seen(machine.parts(), before)
 }
 
 /// Whether an instruction was executed.
-fn has_executed<P: Policy>(machine: &Machine<P>, before: Seen) -> bool
+fn has_executed<P: Policy>(machine: &Machine<P>, before: StateBefore) -> bool
     ensures { result ≡ has_executed before (state_of machine.now) }
 {
     let facts = machine.facts();
@@ -137,7 +137,7 @@ fn has_executed<P: Policy>(machine: &Machine<P>, before: Seen) -> bool
 }
 
 /// Where the cycles were spent.
-fn seen_home<P: Policy>(machine: &Machine<P>, before: Seen) -> Home
+fn seen_home<P: Policy>(machine: &Machine<P>, before: StateBefore) -> Home
     ensures { result ≡ seen_home before (state_of machine.now) }
 {
     if has_executed(machine, before) {
@@ -148,7 +148,7 @@ fn seen_home<P: Policy>(machine: &Machine<P>, before: Seen) -> Home
 }
 
 /// What they cost.
-fn seen_cost<P: Policy>(machine: &Machine<P>, before: Seen) -> Cost
+fn seen_cost<P: Policy>(machine: &Machine<P>, before: StateBefore) -> Cost
     requires now { before.now ≤ (state_of machine.now).now }
     requires misses { before.misses ≤ (state_of machine.now).log.counts.misses }
     requires backs { before.backs ≤ (state_of machine.now).log.counts.writebacks }
@@ -165,7 +165,7 @@ fn seen_cost<P: Policy>(machine: &Machine<P>, before: Seen) -> Cost
 
 /// Some cycles of a run that are all spent at one home, and why it stopped behind them.
 #[derive(Clone, Copy, PartialEq, Eq, Debug)]
-pub struct Turn {
+pub struct SpentCycles {
     pub stop: Stop,
     pub home: Home,
     pub cost: Cost,
@@ -174,7 +174,7 @@ pub struct Turn {
 /// Goes on up to a cycle, behind one with this home.
 ///
 /// Condition: this cycle hasn't passed.
-fn go_on<P: Policy>(machine: &mut Machine<P>, before: Home, to: u64) -> Turn
+fn go_on<P: Policy>(machine: &mut Machine<P>, before: Home, to: u64) -> SpentCycles
     requires now { (state_of machine.old).now ≤ to }
     requires limit { to ≤ 2 ^ 61 }
     ensures state { state_of machine.new ≡ cycles_of (rule_in (setup_in machine.old)) (setup_in machine.old) (requests_in machine.old)
@@ -189,7 +189,7 @@ fn go_on<P: Policy>(machine: &mut Machine<P>, before: Home, to: u64) -> Turn
     let stop = machine.run_to(to);
     let home = seen_home(machine, seen);
     let cost = seen_cost(machine, seen);
-    Turn { stop, home, cost }
+    SpentCycles { stop, home, cost }
 }
 
 /// Whether the run went on when it came to its limit.

@@ -7,7 +7,7 @@ use Rattle.prem_layout.specs.Image.{task_record}
 use Rattle.prem_layout.specs.Placed.{Placed}
 use Rattle.prem_tasks.specs.Broken.{TaskSet}
 use Rattle.prem_tasks.specs.Compiled.{placed_in}
-use Rattle.prem_sets_sound.specs.Accepted.Accepted.{setup_in}
+use Rattle.prem_sets_sound.specs.ImagePremises.Accepted.{setup_in}
 use Rattle.prem_sets_sound.proofs.Sound.{there}
 use Rattle.prem_resp.specs.declared.busy.load.Load.{Load}
 use Rattle.prem_resp.specs.declared.busy.length.Busy.{Busy}

@@ -4,8 +4,8 @@ use Rattle.std.proofs.Common.{◌≡◌, refl, ap, ◌∙◌, sym, subst, ℕ, z
 use Rattle.std.proofs.lemmas.List.{length-map}
 use Rattle.prem_layout.specs.Image.{task_record}
 use Rattle.prem_tasks.specs.Compiled.{placed_in}
-use Rattle.prem_sets_sound.specs.Accepted.Accepted.{setup_in}
-use Rattle.prem_sets_sound.proofs.AcceptedLemmas.Sample.{sample, sample_values, sample_breaks_nothing}
+use Rattle.prem_sets_sound.specs.ImagePremises.Accepted.{setup_in}
+use Rattle.prem_sets_sound.proofs.ImagePremisesLemmas.Sample.{sample, sample_values, sample_breaks_nothing}
 use Rattle.prem_resp.specs.declared.busy.load.Load.{Load}
 use Rattle.prem_resp.specs.declared.busy.length.Busy.{Busy}
 use Rattle.prem_resp.specs.declared.busy.length.Busy.TheVariants.{Within}

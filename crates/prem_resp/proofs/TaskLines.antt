@@ -12,8 +12,8 @@ use Rattle.prem_layout.specs.Parts.{part_count}
 use Rattle.prem_layout.specs.Placed.{Coded, placed_from}
 use Rattle.prem_tasks.specs.Broken.{TaskSet, broken}
 use Rattle.prem_tasks.specs.Compiled.{coded_in, compiled, places_in}
-use Rattle.prem_sets_sound.specs.Accepted.Accepted.{HasCodedValues, HasValues, setup_in}
-use Rattle.prem_sets_sound.proofs.AcceptedLemmas.Whole.{accepted_sets_are_laid_out, default_places_are_lawful}
+use Rattle.prem_sets_sound.specs.ImagePremises.Accepted.{HasCodedValues, HasValues, setup_in}
+use Rattle.prem_sets_sound.proofs.ImagePremisesLemmas.Whole.{accepted_sets_are_laid_out, default_places_are_lawful}
 use Rattle.prem_resp.specs.declared.busy.length.Busy.TheVariants.{Within}
 use Rattle.prem_resp.specs.Busy.Busy.{load_at}
 use Rattle.prem_resp.specs.Timely.Timely.{loads_of}

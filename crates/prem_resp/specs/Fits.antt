@@ -10,7 +10,7 @@ use Rattle.prem_sound.specs.Serve.Requests.{PutWords}
 use Rattle.prem_sound.specs.Sound.{AreInputs}
 use Rattle.prem_tasks.specs.Broken.{TaskSet, broken}
 use Rattle.prem_tasks.specs.Compiled.{placed_in, compiled}
-use Rattle.prem_sets_sound.specs.Accepted.Accepted.{HasValues, setup_in}
+use Rattle.prem_sets_sound.specs.ImagePremises.Accepted.{HasValues, setup_in}
 use Rattle.prem_resp.specs.declared.busy.load.Load.{Load}
 use Rattle.prem_resp.specs.declared.busy.length.Busy.{Busy}
 use Rattle.prem_resp.specs.declared.busy.length.Busy.TheVariants.{Within}

@@ -4,7 +4,7 @@ use Rattle.prem_cycle.specs.State.{record_of}
 use Rattle.prem_layout.specs.Rules.{Refusal}
 use Rattle.prem_tasks.specs.Told.{Told}
 use Rattle.prem_tasks.specs.Broken.{TaskSet, broken}
-use Rattle.prem_sets_sound.specs.Accepted.Accepted.{HasValues, setup_in}
+use Rattle.prem_sets_sound.specs.ImagePremises.Accepted.{HasValues, setup_in}
 use Rattle.prem_answer.specs.declared.answer.Telling.TheVariants.{Brief}
 use Rattle.prem_answer.specs.Statuses.{plain_status}
 use Rattle.prem_answer.specs.Stages.{Reply, Reads, Stage}

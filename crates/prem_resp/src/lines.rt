@@ -20,14 +20,19 @@ fn length_text(alloc: Global, busy: Busy) -> Result<String, AllocError>
 
 /// What is told of a task behind its name.
 #[derive(Clone, Copy)]
-struct Line {
+struct TaskLine {
     cost: u64,
     blocks: u64,
     busy: Busy,
 }
 
 /// The line of a task.
-fn push_line(alloc: Global, text: &mut Vec<u8>, name: &str, line: Line) -> Result<(), AllocError>
+fn push_line(
+    alloc: Global,
+    text: &mut Vec<u8>,
+    name: &str,
+    line: TaskLine,
+) -> Result<(), AllocError>
     ensures { OnOk result (text.new.items ≡ text.old.items ++ task_line name.now line.cost line.blocks line.busy) }
 {
     let (cost, blocks) = (line.cost, line.blocks);
@@ -74,7 +79,7 @@ fn push_lines(
     ensures { OnOk result (text.new.items ≡ text.old.items ++ lines_from loads.now 0 (names_of tasks.now) found.now) }
 {
     for i in 0..tasks.len() {
-        let line = Line {
+        let line = TaskLine {
             cost: loads[i].cost,
             blocks: blocking(loads, i),
             busy: found[i],

@@ -139,21 +139,22 @@ pub use Rattle.prem_ranges.proofs.WellFormed.{has_job, not_no, well_formed_is_ty
 pub use Rattle.prem_ranges.specs.After.{at_body, declared, known_local, known_parameter}
 pub use Rattle.prem_ranges.specs.RangeBreaches.{length_of}
 pub use Rattle.prem_ranges.specs.RangesKept.{limits_of, resolved}
-unfoldable pub use Rattle.prem_ranges.specs.RangesKept.{bounded, first_range_breach, turn_bounds}
+unfoldable pub use Rattle.prem_ranges.specs.RangesKept.{first_range_breach, turn_bounds}
+pub use Rattle.prem_ranges.specs.RangesKept.{bounded}
 pub use Rattle.prem_ranges.specs.Sound.{AlikeRoutines, AllTyped, AreWords, HasGlobal, IsCall, IsOperator, Typed, TypedLocals, TypedProgram, TypedResult, TypedSteps, kinds_of, next_routine}
 pub use Rattle.prem_ranges.specs.Sound.{no_routines}
-pub use Rattle.prem_sets_sound.specs.Accepted.Accepted.{AcceptedSetsAreLaidOut, AcceptedSetsAreSound, AcceptedSetsJoin, AcceptedTasksKeepRules, DefaultPlacesAreLawful, HasCodedValues}
-pub use Rattle.prem_sets_sound.specs.Accepted.Accepted.{HasTextValues, HasValues, IsLaidOut, KeepsRules, LaidOutImagesJoin, LawfulSetsHaveValues, limits_at, no_limits}
-pub use Rattle.prem_sets_sound.specs.Each.Called.{confined_by, confinement_in, confinement_of, job_calls, plan_at, stub_at, task_calls}
-pub use Rattle.prem_sets_sound.specs.Each.Joins.{JobsTell, TaskPaces, TasksJoin, TasksPace, TasksTell, promise_for, task_longest}
+pub use Rattle.prem_sets_sound.specs.ImagePremises.Accepted.{AcceptedSetsAreLaidOut, AcceptedSetsAreSound, AcceptedSetsJoin, AcceptedTasksKeepRules, DefaultPlacesAreLawful, HasCodedValues}
+pub use Rattle.prem_sets_sound.specs.ImagePremises.Accepted.{HasTextValues, HasValues, IsLaidOut, KeepsRules, LaidOutImagesJoin, LawfulSetsHaveValues, limits_at, no_limits}
+pub use Rattle.prem_sets_sound.specs.TaskRuns.Called.{confined_by, confinement_in, confinement_of, job_calls, plan_at, stub_at, task_calls}
+pub use Rattle.prem_sets_sound.specs.TaskRuns.Joins.{JobsTell, TaskPaces, TasksJoin, TasksPace, TasksTell, promise_for, task_longest}
 pub use Rattle.prem_sets_sound.specs.Meant.{AreMeant, meant_at, meant_by, promises_in}
 pub use Rattle.prem_sets_sound.specs.PlacesSound.Sound.{DefaultIsAt, IsSoundAt, SetsAreSoundAt, SoundAtDefault}
 pub use Rattle.prem_sets_sound.specs.Sound.{AcceptedTasksAreMeant, IsSoundSet, LawfulSetsAreSound, MeantTasksJoin, SetsAreSound, SetsAreSoundUnder}
 pub use Rattle.prem_sets_sound.specs.StubLaws.Charges.Charges.{JoinedImagesAreSoundByCharges, PacedTasksAreCharged, RoomIsCounted, TaskCharges, script_of}
 pub use Rattle.prem_sets_sound.specs.StubLaws.Confined.Meaning.{ConfinedCallsMean, ConfinedStubsAreCalled, stub_run}
 pub use Rattle.prem_sets_sound.specs.StubLaws.Coverage.Fetched.{FootprintsAreFetched, HaveBytes, RangesLieInFootprints, SomeHolds}
-pub use Rattle.prem_sets_sound.specs.StubLaws.Dues.Charged.{CalmRunsAreCharged, EachCall, FunctionsCall, IsCharged, IsReady, PartCharged, ReturnsCharged, StubsAreCharged, call_weight}
-pub use Rattle.prem_sets_sound.specs.StubLaws.Dues.Dues.{JobsAreBounded, PartsAreCharged, PlacedJobsAreBounded, PlacedStands, PlannedStands, TableStands, stands_before, weight_in}
+pub use Rattle.prem_sets_sound.specs.StubLaws.JobCharges.Charged.{CalmRunsAreCharged, EachCall, FunctionsCall, IsCharged, IsReady, PartCharged, ReturnsCharged, StubsAreCharged, call_weight}
+pub use Rattle.prem_sets_sound.specs.StubLaws.JobCharges.Dues.{JobsAreBounded, PartsAreCharged, PlacedJobsAreBounded, PlacedStands, PlannedStands, TableStands, stands_before, weight_in}
 pub use Rattle.prem_sets_sound.specs.StubLaws.Initial.Initial.{AreLaid, AreasHoldZero, ContentFits, DefaultsAreLaid, TasksStand, content_of}
 pub use Rattle.prem_sets_sound.specs.StubLaws.Initial.Patches.{ContentIsPatched, Patch, all_patches, code_patch, global_patches, task_patches, with_patches}
 pub use Rattle.prem_sets_sound.specs.StubLaws.Initial.Standing.{CodeStandsFirst, DevicesHoldZero, GlobalsStandFirst, MemoryIsContent, PartsHaveAddresses, code_in, globals_in, setting_of}
@@ -164,11 +165,11 @@ pub use Rattle.prem_sets_sound.specs.StubLaws.JobWeave.Confined.{ConfinedLandWov
 unfoldable pub use Rattle.prem_sets_sound.specs.StubLaws.JobWeave.Confined.{confined_calls}
 pub use Rattle.prem_sets_sound.specs.StubLaws.JobWeave.Jobs.{EachJob, JobRun, JobsAgree, JobsAlong, JobsAreWoven, WovenJobs, all_jobs}
 pub use Rattle.prem_sets_sound.specs.StubLaws.JobWeave.Owned.{OwnWovenTo, own_way}
-pub use Rattle.prem_sets_sound.specs.StubLaws.Join.Joined.{IsJoined, JobLimits, JoinedImagesAreSound, JoinedRunsEnd, TaskJoins}
+pub use Rattle.prem_sets_sound.specs.StubLaws.JoinedRuns.Joined.{IsJoined, JobLimits, JoinedImagesAreSound, JoinedRunsEnd, TaskJoins}
 pub use Rattle.prem_sets_sound.specs.StubLaws.Own.Owned.{HasCode, IsPartOf, OwnBytesAreApart, OwnBytesAreFree, PartsAreOwn, is_held, own_of, owns_first, setup_of}
 pub use Rattle.prem_sets_sound.specs.StubLaws.OwnSteps.OwnSteps.{AreOwnAt, CallsAreOwn, CodeIsOwn, FunctionsTake, OwnBytes, StubsAreOwn}
-pub use Rattle.prem_sets_sound.specs.StubLaws.Strides.Strided.{CalmRunsAreStrided, FallsStrided, FunctionsReturnLast, GoesOn, IsStrided, PartStrided, PartsAreStrided, PlacedJobsAreStrided}
-pub use Rattle.prem_sets_sound.specs.StubLaws.Strides.Strided.{ReturnsLast, ReturnsStrided, sums_in}
+pub use Rattle.prem_sets_sound.specs.StubLaws.StretchLengths.Strided.{CalmRunsAreStrided, FallsStrided, FunctionsReturnLast, GoesOn, IsStrided, PartStrided, PartsAreStrided, PlacedJobsAreStrided}
+pub use Rattle.prem_sets_sound.specs.StubLaws.StretchLengths.Strided.{ReturnsLast, ReturnsStrided, sums_in}
 pub use Rattle.prem_sets_sound.specs.StubLaws.StubFits.Costs.{CostsAreBounded, IsOf, StubsFitTheirLength}
 pub use Rattle.prem_sets_sound.specs.StubLaws.StubFits.Within.{StubNumbersAgree, StubsAreWithin, any_holds, codes_in, guard_of, pieces_or, reached_in}
 pub use Rattle.prem_sets_sound.specs.StubLaws.StubWeave.StubWeave.{StubAt, StubStands, StubsLandWoven}
@@ -193,8 +194,8 @@ pub use Rattle.prem_sets_sound.specs.Weave.Promise.Promised.{promise_of, promise
 pub use Rattle.prem_sets_sound.specs.Weave.Segment.Bodies.{BodiesAreWithin, BodiesCost, CodeIsWithin, IsBody, TakesSome}
 unfoldable pub use Rattle.prem_sets_sound.specs.Weave.Segment.Bodies.{code_costs}
 pub use Rattle.prem_sets_sound.specs.Weave.Segment.Sections.{StubIsWithin, StubsAreSections, section_of}
-pub use Rattle.prem_sets_sound.specs.Weave.Told.Shape.{HasShape, JobsKeepShape}
-pub use Rattle.prem_sets_sound.specs.Weave.Told.Told.{AreRead, HaveLength, MarksAreRead, MarksAreTold, Tells, WeavesTell, tells_call, tells_none}
+pub use Rattle.prem_sets_sound.specs.Weave.MeantCalls.Shape.{HasShape, JobsKeepShape}
+pub use Rattle.prem_sets_sound.specs.Weave.MeantCalls.Told.{AreRead, HaveLength, MarksAreRead, MarksAreTold, Tells, WeavesTell, tells_call, tells_none}
 pub use Rattle.prem_sets_sound.specs.Weave.Weave.{DuesJoin, Goes, IsSection, IsWeave, RunsJoin, Section, SectionGoes, Weave, WeavesAreCharged, WeavesJoin, WovenRunsConform}
 pub use Rattle.prem_sets_sound.specs.Weave.Weave.{WovenRunsGivePromises, calls, calls_of, charge, dids_of, due_along, ends, goes, joined, marks_of, section_dids, segment_of, stated_by}
 pub use Rattle.prem_sound.proofs.Finishing.{scripts_finish, scripts_finish_by_jobs}
@@ -227,7 +228,7 @@ pub use Rattle.prem_syntax.specs.Resolved.{AndAlso, Binary, Call, Constant, Done
 pub use Rattle.prem_syntax.specs.Resolved.{Unary, While}
 pub use Rattle.prem_syntax.specs.Rules.{CallOrder, Limit, LoopForm, NoJob, OfTypes, Rule, SystemCall, Twice}
 pub use Rattle.prem_syntax.specs.Source.{Limits, access_of, calls_below, constants_of, do_jobs, enter_if_there, everywhere, initial_words, source, this_or, unlimited}
-unfoldable pub use Rattle.prem_syntax.specs.Source.{start}
+pub use Rattle.prem_syntax.specs.Source.{start}
 pub use Rattle.prem_syntax.specs.Statements.{MarkedCall, ProgramState, choose, declare, enter, int_local, is_marked, leave, loop_step, loop_test, result_of, store, stored, take_input, value}
 pub use Rattle.prem_syntax.specs.Statements.{values, with_cell, with_local, with_mark, with_new_local, with_output, with_target}
 unfoldable pub use Rattle.prem_syntax.specs.Statements.{counting}

@@ -9,9 +9,9 @@ use Rattle.prem_layout.specs.Image.{task_record}
 use Rattle.prem_layout.specs.Placed.{Placed}
 use Rattle.prem_tasks.specs.Broken.{TaskSet}
 use Rattle.prem_tasks.specs.Compiled.{placed_in, places_in}
-use Rattle.prem_sets_sound.specs.Accepted.Accepted.{setup_in}
+use Rattle.prem_sets_sound.specs.ImagePremises.Accepted.{setup_in}
 use Rattle.prem_sets_sound.proofs.Sound.{there}
-use Rattle.prem_sets_sound.proofs.AcceptedLemmas.Whole.{default_places_are_lawful}
+use Rattle.prem_sets_sound.proofs.ImagePremisesLemmas.Whole.{default_places_are_lawful}
 use Rattle.prem_sets_sound.proofs.PlacesSoundLemmas.At.{default_is_at}
 use Rattle.prem_latency.specs.Wcet.Tasks.{task_stretch, task_wcet}
 use Rattle.prem_latency.specs.Wcet.Sets.{stretch_at, wcet_at}

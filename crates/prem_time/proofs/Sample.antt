@@ -7,8 +7,8 @@ use Rattle.prem_text.specs.Lexing.Tokens.{tokens_of, lex, step, start, first_tok
 use Rattle.prem_text.specs.Lexing.Spelling.{reserved_word, used_word, is_unused, longest_mark}
 use Rattle.prem_text.specs.Lexing.Literal.{literal_word}
 use Rattle.prem_ranges.specs.RangesKept.{first_range_breach, turn_bounds}
-use Rattle.prem_sets_sound.specs.Accepted.Accepted.{setup_in}
-use Rattle.prem_sets_sound.proofs.AcceptedLemmas.Sample.{sample, sample_values, sample_breaks_nothing}
+use Rattle.prem_sets_sound.specs.ImagePremises.Accepted.{setup_in}
+use Rattle.prem_sets_sound.proofs.ImagePremisesLemmas.Sample.{sample, sample_values, sample_breaks_nothing}
 use Rattle.prem_resp.specs.declared.busy.load.Load.{Load}
 use Rattle.prem_resp.specs.declared.busy.length.Busy.TheVariants.{Within}
 use Rattle.prem_resp.specs.Busy.Busy.{IsLoad}

@@ -9,8 +9,8 @@ use Rattle.prem_lru.specs.Rules.{rule_of}
 use Rattle.prem_layout.specs.Placed.{Placed}
 use Rattle.prem_tasks.specs.Broken.{TaskSet, broken}
 use Rattle.prem_tasks.specs.Compiled.{compiled, placed_in, places_in}
-use Rattle.prem_sets_sound.specs.Accepted.Accepted.{HasValues, setup_in}
-use Rattle.prem_sets_sound.proofs.AcceptedLemmas.Whole.{default_places_are_lawful}
+use Rattle.prem_sets_sound.specs.ImagePremises.Accepted.{HasValues, setup_in}
+use Rattle.prem_sets_sound.proofs.ImagePremisesLemmas.Whole.{default_places_are_lawful}
 use Rattle.prem_sets_sound.proofs.PlacesSoundLemmas.At.{default_is_at}
 use Rattle.prem_latency.specs.Wcet.Sets.{closed_at}
 use Rattle.prem_resp.specs.declared.busy.load.Load.{Load}

@@ -5,7 +5,7 @@ use Rattle.prem_resp.specs.declared.busy.length.Busy.{Busy}
 use Rattle.prem_resp.specs.declared.busy.length.Busy.TheVariants.{Within}
 use Rattle.prem_resp.specs.declared.busy.load.Load.{Load}
 use Rattle.prem_resp.specs.Fits.{found_in}
-use Rattle.prem_sets_sound.proofs.AcceptedLemmas.Sample.{sample, sample_values, sample_breaks_nothing}
+use Rattle.prem_sets_sound.proofs.ImagePremisesLemmas.Sample.{sample, sample_values, sample_breaks_nothing}
 use Rattle.prem_latency.proofs.WcetLemmas.Sample.{sample_closed}
 use Rattle.prem_tasks.specs.Compiled.{placed_in}
 use Rattle.prem_latency.specs.declared.wait.Asking.{Asking}

@@ -1,7 +1,7 @@
 -- What words ask for, in memory.
 use Rattle.std.specs.Prelude.{List, map}
 use Rattle.prem_time.specs.declared.words.Distance.{Distance as DistanceIn}
-use Rattle.prem_time.specs.declared.words.Asked.{Asked as AskedIn}
+use Rattle.prem_time.specs.declared.words.TimesAsked.{TimesAsked as AskedIn}
 use Rattle.prem_time.specs.Words.{Asked, Distance}
 
 abbrev pub distance_of : DistanceIn → Distance

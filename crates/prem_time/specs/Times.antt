@@ -7,7 +7,7 @@ use Rattle.prem_layout.specs.Bounds.{job_bound_of}
 use Rattle.prem_layout.specs.Placed.{Placed}
 use Rattle.prem_tasks.specs.Broken.{TaskSet}
 use Rattle.prem_tasks.specs.Compiled.{placed_in}
-use Rattle.prem_sets_sound.specs.Accepted.Accepted.{setup_in}
+use Rattle.prem_sets_sound.specs.ImagePremises.Accepted.{setup_in}
 use Rattle.prem_wcet_laws.specs.Wcet.{wcet_of, longest_wcet_of}
 use Rattle.prem_wcet.specs.Times.{IntervalText, interval_text}
 use Rattle.prem_resp.specs.declared.busy.load.Load.{Load}

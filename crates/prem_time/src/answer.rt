@@ -15,7 +15,7 @@ use crate::limit::limit_of;
 use crate::lines::{all_held, push_devices, push_end, tasks_text};
 use crate::loads::loads_of;
 use crate::waits::waits_of;
-use crate::words::{Asked, Distance};
+use crate::words::{Distance, TimesAsked};
 use prem_answer::refusal::uncompiled;
 use prem_answer::{Answer, Halt, Status};
 use prem_compile::TaskSet;
@@ -51,7 +51,12 @@ fn set_text(
 }
 
 /// The answer to a set that breaks no rule and has all devices that are named.
-fn told(alloc: Global, devices: &[Device], bus: &Bus, timed: &Timed) -> Result<Answer, AllocError>
+fn times_answer(
+    alloc: Global,
+    devices: &[Device],
+    bus: &Bus,
+    timed: &Timed,
+) -> Result<Answer, AllocError>
     requires loads { HasLoads timed.now }
     requires devices { HasDevices devices.now bus.now timed.now }
     ensures { IfOk result (λ a. reply_of a ≡ (Done, text_by devices.now bus.now timed.now)) }
@@ -89,7 +94,7 @@ fn named_answer(
 {
     match unknown_in(distances, devices) {
         Some(name) => unknown(alloc, name),
-        None => told(alloc, devices, bus, timed),
+        None => times_answer(alloc, devices, bus, timed),
     }
 }
 
@@ -112,7 +117,7 @@ fn set_answer(alloc: Global, set: &TaskSet, distances: &[Distance]) -> Result<An
 /// these stages that doesn't go through decides.
 pub(crate) fn time_answer<S: Store>(
     alloc: Global,
-    asked: &Asked,
+    asked: &TimesAsked,
     store: &mut S,
 ) -> Result<Answer, Halt>
     requires { AreDistances (distances_in asked.now.distances.items) }

@@ -27,7 +27,7 @@ fn busy_text(alloc: Global, busy: Busy) -> Result<String, AllocError>
 
 /// What is told of a task behind its name.
 #[derive(Clone, Copy)]
-struct Line {
+struct TaskLine {
     bound: u64,
     load: Load,
     blocks: u64,
@@ -36,7 +36,7 @@ struct Line {
 
 /// What is told of it before its busy period.
 #[tactic(auto, unfolding(crate::specs::Lines::numbers_text))]
-fn numbers_text(alloc: Global, line: Line) -> Result<String, AllocError>
+fn numbers_text(alloc: Global, line: TaskLine) -> Result<String, AllocError>
     ensures { IfOk result (λ s. string_bytes s ≡ numbers_text line.bound line.load.cost line.load.longest line.blocks) }
 {
     let (bound, blocks) = (line.bound, line.blocks);
@@ -45,7 +45,12 @@ fn numbers_text(alloc: Global, line: Line) -> Result<String, AllocError>
 }
 
 /// The line of a task.
-fn push_line(alloc: Global, text: &mut Vec<u8>, name: &str, line: Line) -> Result<(), AllocError>
+fn push_line(
+    alloc: Global,
+    text: &mut Vec<u8>,
+    name: &str,
+    line: TaskLine,
+) -> Result<(), AllocError>
     ensures { OnOk result (text.new.items ≡ text.old.items ++ (task_line name.now line.bound line.load.cost line.load.longest line.blocks line.busy ++ 10 ∷ [])) }
 {
     text.extend_from_slice(b"task ")?;
@@ -89,7 +94,7 @@ fn push_task(
     text: &mut Vec<u8>,
     task: &TaskRecord,
     times: &TaskTimes,
-    line: Line,
+    line: TaskLine,
 ) -> Result<(), AllocError>
     ensures { OnOk result (text.new.items ≡ text.old.items ++ task_text (told_by task.now line.bound (times_in times.now)) line.load line.blocks line.busy) }
 {
@@ -115,7 +120,7 @@ fn push_tasks(
     ensures { OnOk result (text.new.items ≡ text.old.items ++ tasks_text loads.now 0 (tolds_told tasks.now bounds.now (map times_in times.now)) found.now) }
 {
     for i in 0..tasks.len() {
-        let line = Line {
+        let line = TaskLine {
             bound: bounds[i],
             load: loads[i],
             blocks: blocking(loads, i),

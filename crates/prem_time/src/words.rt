@@ -25,7 +25,7 @@ pub struct Distance<'a> {
 
 /// The file of a set, and how far apart the requests of some of its devices are.
 #[derive(Drop)]
-pub(crate) struct Asked<'a> {
+pub(crate) struct TimesAsked<'a> {
     pub(crate) set: &'a str,
     pub(crate) distances: Vec<Distance<'a>>,
 }
@@ -130,12 +130,12 @@ pub fn distances_in<'a>(
 pub(crate) fn asked_of<'a>(
     alloc: Global,
     words: &'a [String],
-) -> Result<Option<Asked<'a>>, AllocError>
+) -> Result<Option<TimesAsked<'a>>, AllocError>
     ensures { IfOk result (λ asked. option_map asked_in asked ≡ asked_of (map string_bytes words.now)) }
 {
     match words {
         [set, rest @ ..] if is_file(set) => match distances_in(alloc, rest)? {
-            Some(distances) => Ok(Some(Asked {
+            Some(distances) => Ok(Some(TimesAsked {
                 set: set.as_str(),
                 distances,
             })),

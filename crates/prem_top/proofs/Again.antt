@@ -3,7 +3,7 @@ use Rattle.std.proofs.Common.{◌≡◌, ℕ, Bool, false, List, ◌++◌, None,
 use Rattle.prem_io.specs.Files.{Files}
 use Rattle.prem_tasks.specs.Broken.{TaskSet, broken}
 use Rattle.prem_tasks.specs.Compiled.{compiled}
-use Rattle.prem_sets_sound.specs.Accepted.Accepted.{HasValues}
+use Rattle.prem_sets_sound.specs.ImagePremises.Accepted.{HasValues}
 use Rattle.prem_set.specs.Run.Names.{KnownNames}
 use Rattle.prem_set.specs.Run.Run.{Gathered, with_words, run_of as lines_of_run}
 use Rattle.prem_set.specs.Run.Text.{lists_text}

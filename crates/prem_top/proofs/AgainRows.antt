@@ -16,7 +16,7 @@ use Rattle.prem_text.specs.Lexing.Tokens.{first_token, start, step, lex, tokens_
 use Rattle.prem_ranges.specs.RangesKept.{first_range_breach}
 use Rattle.prem_tasks.specs.Broken.{TaskSet, broken}
 use Rattle.prem_tasks.specs.Compiled.{compiled}
-use Rattle.prem_sets_sound.specs.Accepted.Accepted.{HasValues}
+use Rattle.prem_sets_sound.specs.ImagePremises.Accepted.{HasValues}
 use Rattle.prem_set.specs.SetFile.{SetData, plant_in, task_in, task_of, entries_from, tasks_of, device_in, device_of, devices_of, root_of, set_of as set_of_text}
 use Rattle.prem_set.specs.Run.Run.{Gathered, with_words, inputs_of, request_words, request_of, in_words, req_words, line_read, lines_read, run_of as lines_of_run}
 use Rattle.prem_command.specs.Words.{RunAsked, run, MailAsked, command_of, read_by, run_of}

@@ -15,7 +15,7 @@ use Rattle.prem_tasks.specs.Told.{Told}
 use Rattle.prem_tasks.specs.Broken.{TaskSet, broken, programs_of}
 use Rattle.prem_tasks.specs.Compiled.{CompiledText, compiled, parts_in}
 use Rattle.prem_tasks.specs.At.{AreLawfulFor, broken_early, broken_at, compiled_at, placed_by}
-use Rattle.prem_sets_sound.specs.Accepted.Accepted.{HasValues, setup_in}
+use Rattle.prem_sets_sound.specs.ImagePremises.Accepted.{HasValues, setup_in}
 use Rattle.prem_sets_sound.specs.Meant.{promises_in}
 use Rattle.prem_sets_sound.specs.PlacesSound.Sound.{IsSoundAt}
 use Rattle.prem_sets_sound.specs.Sound.{IsSoundSet}

@@ -10,7 +10,7 @@ use Rattle.prem_layout.specs.Bounds.{job_weight}
 use Rattle.prem_layout.specs.Stretch.Sums.{taking}
 use Rattle.prem_bounds.specs.Scale.{clipped}
 use Rattle.prem_bounds.proofs.AlikeSums.{chained_alike, among_alike, turned_alike}
-use Rattle.prem_wcet_laws.specs.Counts.{Count, quiet, then_count, either_count, turned_count, marked_count}
+use Rattle.prem_wcet_laws.specs.Counts.{PathCount, quiet, then_count, either_count, turned_count, marked_count}
 use Rattle.prem_wcet_laws.specs.Scopes.{Fact, Scene, Span, fact_of, code_ranges, data_ranges, charge_with}
 use Rattle.prem_wcet_laws.specs.Least.{own, own_jump}
 use Rattle.prem_wcet_laws.specs.Parted.{cuts, by_cut, Edge, no_edge, bottom_of, called_parted, turn_count}
@@ -26,19 +26,19 @@ use Rattle.prem_wcet.proofs.AlikeScopes.{Alike, alike_sum, alike_min, alike_max,
 quiet_alike : (a b : ℕ) → Alike a b → AreAlike (quiet a) (quiet b)
 quiet_alike a b f = record { total = f; sums = ap taking f }
 
-pub then_alike : (a b c d : Count) → AreAlike a b → AreAlike c d → AreAlike (then_count a c) (then_count b d)
+pub then_alike : (a b c d : PathCount) → AreAlike a b → AreAlike c d → AreAlike (then_count a c) (then_count b d)
 then_alike a b c d f g = record { total = alike_sum a.total b.total c.total d.total f.total g.total; sums = chained_alike a.sums c.sums b.sums d.sums f.sums g.sums }
 
-pub either_alike : (a b c d : Count) → AreAlike a b → AreAlike c d → AreAlike (either_count a c) (either_count b d)
+pub either_alike : (a b c d : PathCount) → AreAlike a b → AreAlike c d → AreAlike (either_count a c) (either_count b d)
 either_alike a b c d f g = record { total = alike_max a.total b.total c.total d.total f.total g.total; sums = among_alike a.sums c.sums b.sums d.sums f.sums g.sums }
 
-turned_count_alike : (turns : ℕ) (a b c d : Count) → AreAlike a b → AreAlike c d → AreAlike (turned_count turns a c) (turned_count turns b d)
+turned_count_alike : (turns : ℕ) (a b c d : PathCount) → AreAlike a b → AreAlike c d → AreAlike (turned_count turns a c) (turned_count turns b d)
 turned_count_alike turns a b c d f g = record {
   total = alike_sum (turns * a.total) (turns * b.total) c.total d.total (alike_product turns a.total b.total f.total) g.total;
   sums = turned_alike turns a.sums c.sums b.sums d.sums f.sums g.sums;
 }
 
-same_count : (a : Count) → AreAlike a a
+same_count : (a : PathCount) → AreAlike a a
 same_count a = record { total = refl; sums = refl }
 
 module _ (e : Scene) (parts : Parts) (plans : List Plan) (stub : ℕ → ℕ) (facts : List Fact)
@@ -104,17 +104,17 @@ module _ (e : Scene) (parts : Parts) (plans : List Plan) (stub : ℕ → ℕ) (f
     by_mark true is = subst (AreAlike (marked_count e.plant e.plans (e.stub f))) (marks f is) (same_count (marked_count e.plant e.plans (e.stub f)))
     by_mark false is = (same f).parted
 
-  choice_alike : (skips : ℕ) (a b c d : Count) → AreAlike a b → AreAlike c d → AreAlike (choice_parted e skips a c) (choice_parted v skips b d)
+  choice_alike : (skips : ℕ) (a b c d : PathCount) → AreAlike a b → AreAlike c d → AreAlike (choice_parted e skips a c) (choice_parted v skips b d)
   choice_alike skips a b c d f g =
       then_alike _ _ _ _ (same_count (quiet (job_weight e.plant (branch_of (nonzero 10)))))
       (either_alike _ _ _ _ (then_alike a b _ _ f (same_count (quiet (skips * own_jump e)))) (then_alike _ _ c d (same_count (quiet (own_jump e))) g))
 
-  turn_alike : (turns h : ℕ) (a b : Count) → AreAlike a b → AreAlike (turn_count e turns (nonzero 10) h a) (turn_count v turns (nonzero 10) h b)
+  turn_alike : (turns h : ℕ) (a b : PathCount) → AreAlike a b → AreAlike (turn_count e turns (nonzero 10) h a) (turn_count v turns (nonzero 10) h b)
   turn_alike turns h a b f =
       let w : ℕ = job_weight e.plant (branch_of (nonzero 10)) in
       turned_count_alike turns _ _ _ _ (then_alike _ _ _ _ (same_count (quiet (h + w))) (then_alike a b _ _ f (same_count (quiet (own_jump e))))) (same_count (quiet (h + w + own_jump e)))
 
-  by_cut_alike : (o : Outline) (a b c d : Count) → AreAlike a b → AreAlike c d → AreAlike (by_cut (cut_in e o) a c) (by_cut (cut_in v o) b d)
+  by_cut_alike : (o : Outline) (a b c d : PathCount) → AreAlike a b → AreAlike c d → AreAlike (by_cut (cut_in e o) a c) (by_cut (cut_in v o) b d)
   by_cut_alike o a b c d f g = subst (λ x. AreAlike (by_cut (cut_in e o) a c) (by_cut x b d)) (cut_same o) (by_bool (cut_in e o)) where
     by_bool : (x : Bool) → AreAlike (by_cut x a c) (by_cut x b d)
     by_bool true = f

@@ -8,7 +8,7 @@ use Rattle.prem_layout.specs.Template.Frames.{counters_in}
 use Rattle.prem_layout.specs.Template.Terms.{only, nonzero}
 use Rattle.prem_layout.specs.Template.Steps.{bound_test, steps_code, step_code, count_code, argument_code, target_code}
 use Rattle.prem_layout.specs.Stretch.Sums.{Sums, taking, chained, both, most}
-use Rattle.prem_wcet_laws.specs.Counts.{Count, quiet, then_count}
+use Rattle.prem_wcet_laws.specs.Counts.{PathCount, quiet, then_count}
 use Rattle.prem_wcet_laws.specs.Scopes.{Scene, code_ranges, data_ranges, charge_with, globals_in_term, globals_in_terms}
 use Rattle.prem_wcet_laws.specs.Least.{own, own_jump, term_of, bound_code, first_code, counter_code, turn_of, taken_place, other_place, body_place, behind}
 use Rattle.prem_wcet_laws.specs.Parted.{Edge, no_edge, cuts, has_cut, by_cut, front, next_edge, passing, argument_ranges, bottom_of, passage_span, passage, opened, Begun, counted}
@@ -48,10 +48,10 @@ sums_right a = λ i. record {
   behind = both_right a.behind i;
 }
 
-pub then_left : (a : Count) → then_count (quiet 0) a ≡ a
+pub then_left : (a : PathCount) → then_count (quiet 0) a ≡ a
 then_left a = λ i. record { total = none_plus a.total i; sums = sums_left a.sums i }
 
-pub then_right : (a : Count) → then_count a (quiet 0) ≡ a
+pub then_right : (a : PathCount) → then_count a (quiet 0) ≡ a
 then_right a = λ i. record { total = plus_none a.total i; sums = sums_right a.sums i }
 
 -- ---- what stands before the first marked call
@@ -141,7 +141,7 @@ opening_is e last edge n b steps =
 -- ---- what stands behind the first passage
 
 -- what stands behind the passage that has begun or hasn't
-abbrev rest_of : (e : Scene) (last : Edge) (n at : ℕ) → Steps → Count
+abbrev rest_of : (e : Scene) (last : Edge) (n at : ℕ) → Steps → PathCount
 rest_of e last n at Done = quiet 0
 rest_of e last n at (SetLocal pl k value rest) =
     parted e counted last n (behind e n at (SetLocal pl k value Done)) rest
@@ -206,7 +206,7 @@ begun_apart e b last n at (Call pl target f arguments rest) =
     ap (then_count (quiet (opened e b last n (Call pl target f arguments rest)))) (then_left (rest_of e last n at (Call pl target f arguments rest)))
 
 -- a passage that begins at a place, and what is behind it
-abbrev begun_in : (e : Scene) (edge last : Edge) (b at : ℕ) → Outline → Count
+abbrev begun_in : (e : Scene) (edge last : Edge) (b at : ℕ) → Outline → PathCount
 begun_in e edge last b at o = then_count (quiet (passage_in e b edge (front_in e o) (edge_in e last o))) (closed_in e last at o)
 
 begun_from : (e : Scene) (edge last : Edge) (n b at : ℕ) (steps : Steps) → closed_in e last at (outline_of e n steps) ≡ parted e counted last n at steps →

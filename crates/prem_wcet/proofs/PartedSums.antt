@@ -6,7 +6,7 @@ use Rattle.prem_asm.specs.PiecesOf.{pieces_of}
 use Rattle.prem_layout.specs.Bounds.{job_weight}
 use Rattle.prem_layout.specs.Template.Terms.{nonzero}
 use Rattle.prem_bounds.specs.Scale.{clipped}
-use Rattle.prem_wcet_laws.specs.Counts.{Count, quiet, then_count}
+use Rattle.prem_wcet_laws.specs.Counts.{PathCount, quiet, then_count}
 use Rattle.prem_wcet_laws.specs.Least.{own_jump}
 use Rattle.prem_wcet_laws.specs.Parted.{Edge, no_edge, by_cut, turn_count}
 use Rattle.prem_wcet_laws.specs.Scopes.{Scene}
@@ -129,7 +129,7 @@ landing_ends at (Turning' code names first turns head before p body behind) f = 
 
 -- Statements from a number on, which stand at a place: the passage that they begin ends before one of them, or behind all; this edge is there, and
 -- so much is counted behind it.
-pub record IsClosed (e : Scene) (last : Edge) (ps : List Part) (start n place until : ℕ) (edge : Edge) (count : Count) : Type 0 where
+pub record IsClosed (e : Scene) (last : Edge) (ps : List Part) (start n place until : ℕ) (edge : Edge) (count : PathCount) : Type 0 where
   pub low : n ≤ until
   pub high : until ≤ length ps
   pub stand : place + size_of (code_of (parts_of (drop n ps))) ≡ start + size_of (code_of (parts_of ps))
@@ -142,7 +142,7 @@ taken_more : (ps : List Part) (n k : ℕ) (p : Part) → n < length ps → p ≡
 taken_more ps n k p h is = ap (λ xs. parts_of (take (suc k) xs)) (drop_more ps n p h) ∙ ap (λ q. part_before q (parts_of (take k (drop (n + 1) ps)))) (sym is)
 
 -- one more before them, which has no marked calls in it
-pub closed_before : (e : Scene) (last : Edge) (ps : List Part) (start m n place begin until : ℕ) (edge : Edge) (count : Count) (p : Part) → m ≡ n + 1 → n < length ps → p ≡ get_or ps n p →
+pub closed_before : (e : Scene) (last : Edge) (ps : List Part) (start m n place begin until : ℕ) (edge : Edge) (count : PathCount) (p : Part) → m ≡ n + 1 → n < length ps → p ≡ get_or ps n p →
     cut_in e (part_of p) ≡ false → begin + size_of (part_code p) ≡ place → IsClosed e last ps start m place until edge count → IsClosed e last ps start n begin until edge count
 closed_before e last ps start m n place begin until edge count p ism h is cut at f =
     let rest : List Part = drop (n + 1) ps in
@@ -166,7 +166,7 @@ closed_before e last ps start m n place begin until edge count p ism h is cut at
     }
 
 -- one that has
-pub closed_at : (e : Scene) (last : Edge) (ps : List Part) (start m n place begin until : ℕ) (edge next : Edge) (count cut made : Count)
+pub closed_at : (e : Scene) (last : Edge) (ps : List Part) (start m n place begin until : ℕ) (edge next : Edge) (count cut made : PathCount)
     (front : Outline) (p : Part) → m ≡ n + 1 → n < length ps → p ≡ get_or ps n p →
     cut_in e (part_of p) ≡ true → begin + size_of (part_code p) ≡ place → next ≡ passing_edge e (part_of p) →
     AreAlike cut (cut_count_in e begin (part_of p)) → front ≡ parts_of (take (until - m) (drop m ps)) →
@@ -201,7 +201,7 @@ closed_at e last ps start m n place begin until edge next count cut made front p
     }
 
 -- all of them, behind the edge before them
-pub closed_all : (e : Scene) (at place n until told : ℕ) (before last edge : Edge) (ps : List Part) (front : Outline) (start count r : Count) → n ≡ 0 → front ≡ parts_of (take until ps) →
+pub closed_all : (e : Scene) (at place n until told : ℕ) (before last edge : Edge) (ps : List Part) (front : Outline) (start count r : PathCount) → n ≡ 0 → front ≡ parts_of (take until ps) →
     told ≡ clipped (passage_in e at before front edge) → start ≡ quiet told → AreAlike r (then_count start count) →
     IsClosed e last ps (at + size_of before.pieces) n place until edge count → AreAlike r (parted_in e at before last (parts_of ps))
 closed_all e at place n until told before last edge ps front start count r isn isf ist iss isr f =
@@ -225,7 +225,7 @@ drop_small ps zero = (let same : size_of (code_of (parts_of ps)) ≤ size_of (co
 drop_small [] (suc n) = (let same : size_of (code_of (parts_of [])) ≤ size_of (code_of (parts_of [])) = omega arith in same)
 drop_small (x ∷ xs) (suc n) = let more = drop_small xs n in let size = size_before x (parts_of xs) in omega (arith, more, size)
 
-module _ (e : Scene) (last : Edge) (ps : List Part) (start m n place until : ℕ) (edge : Edge) (count : Count) (p : Part)
+module _ (e : Scene) (last : Edge) (ps : List Part) (start m n place until : ℕ) (edge : Edge) (count : PathCount) (p : Part)
     (f : IsClosed e last ps start m place until edge count) (fits : FitsAt start (parts_of ps)) where
   pub part_room : m ≡ n + 1 → n < length ps → p ≡ get_or ps n p → size_of (part_code p) ≤ place
   part_room ism h is =
@@ -267,7 +267,7 @@ module _ (e : Scene) (last : Edge) (ps : List Part) (start m n place until : ℕ
       subst (λ k. FitsAt k front) landed (subst (FitsAt place) (sym (isf ∙ f.front)) (front_fits e place (parts_of (drop m ps)) behind_it))
 
 -- and before all of them
-module _ (e : Scene) (last : Edge) (ps : List Part) (start n place until : ℕ) (edge : Edge) (count : Count) (f : IsClosed e last ps start n place until edge count) (isn : n ≡ 0) where
+module _ (e : Scene) (last : Edge) (ps : List Part) (start n place until : ℕ) (edge : Edge) (count : PathCount) (f : IsClosed e last ps start n place until edge count) (isn : n ≡ 0) where
   whole_list : drop n ps ≡ ps
   whole_list = ap (λ k. drop k ps) isn
 
@@ -315,13 +315,13 @@ alone_told e at o =
     ap (λ k. then_count (quiet (passage_in e at no_edge (front_in e o) (edge_in e no_edge o))) (closed_in e no_edge k o)) none
 
 -- behind a statement that has marked calls in it
-pub behind_told : (most : ℕ) (told : ℕ) (next tail cut rest r : Count) → told ≡ clipped most → next ≡ quiet told → AreAlike tail (then_count next rest) → AreAlike r (then_count cut tail) →
+pub behind_told : (most : ℕ) (told : ℕ) (next tail cut rest r : PathCount) → told ≡ clipped most → next ≡ quiet told → AreAlike tail (then_count next rest) → AreAlike r (then_count cut tail) →
     AreAlike r (then_count cut (then_count (quiet most) rest))
 behind_told most told next tail cut rest r ist isn t e =
     then_told cut cut tail (then_count (quiet most) rest) r e (alike_same cut) (then_told next (quiet most) rest rest tail t (quiet_told next told most isn ist) (alike_same rest))
 
 -- a choice
-pub cut_choice_told : (e : Scene) (skips w test : ℕ) (start sides first second x y r : Count) → test ≡ clipped w → start ≡ quiet test → AreAlike first x → AreAlike second y →
+pub cut_choice_told : (e : Scene) (skips w test : ℕ) (start sides first second x y r : PathCount) → test ≡ clipped w → start ≡ quiet test → AreAlike first x → AreAlike second y →
     AreAlike sides (choice_parted e skips first second) → AreAlike r (then_count start sides) → AreAlike r (then_count (quiet w) (choice_parted e skips x y))
 cut_choice_told e skips w test start sides first second x y r isw iss a b s t =
     then_told start (quiet w) sides (choice_parted e skips x y) r t (quiet_told start test w iss isw)
@@ -329,7 +329,7 @@ cut_choice_told e skips w test start sides first second x y r isw iss a b s t =
     (choice_alike (job_weight e.plant (branch_of (nonzero 10))) (skips * own_jump e) (own_jump e) first second x y a b))
 
 -- a loop
-pub cut_turns_told : (e : Scene) (turns h top f outside b start l last : ℕ) (inside leave closing begin turn all entry x r : Count) →
+pub cut_turns_told : (e : Scene) (turns h top f outside b start l last : ℕ) (inside leave closing begin turn all entry x r : PathCount) →
     AreAlike inside x → last ≡ clipped l → leave ≡ quiet last → AreAlike closing (then_count inside leave) →
     start ≡ clipped b → begin ≡ quiet start → AreAlike turn (then_count begin closing) → top ≡ clipped h →
     AreAlike all (turn_count e turns (nonzero 10) top turn) → outside ≡ clipped f → entry ≡ quiet outside → AreAlike r (then_count entry all) →

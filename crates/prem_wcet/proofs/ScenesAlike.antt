@@ -10,7 +10,7 @@ use Rattle.prem_layout.specs.Template.Steps.{closing, function_code, opening, re
 use Rattle.prem_layout.specs.Template.Terms.{only}
 use Rattle.prem_layout.specs.Bounds.{job_weight}
 use Rattle.prem_bounds.specs.Scale.{clipped}
-use Rattle.prem_wcet_laws.specs.Counts.{Count, marked_count}
+use Rattle.prem_wcet_laws.specs.Counts.{PathCount, marked_count}
 use Rattle.prem_wcet_laws.specs.Scopes.{Span, Scene, Fact, fact_of, code_ranges, data_ranges, charge, function_span}
 use Rattle.prem_wcet_laws.specs.Least.{own, own_around, body_at, declared, least, least_function}
 use Rattle.prem_wcet_laws.specs.Parted.{cuts, has_cut, parted_function}
@@ -43,7 +43,7 @@ pub record StandsFor (e v : Scene) : Type 0 where
   pub frame : (f : ℕ) → e.parts.frame f ≡ v.parts.frame f
   pub marks : (f : ℕ) → e.marked f ≡ true → marked_count e.plant e.plans (e.stub f) ≡ marked_count e.plant v.plans (v.stub f)
 
-pub alike_trans : (a b c : Count) → AreAlike a b → AreAlike b c → AreAlike a c
+pub alike_trans : (a b c : PathCount) → AreAlike a b → AreAlike b c → AreAlike a c
 alike_trans a b c f g = record { total = f.total ∙ g.total; sums = f.sums ∙ g.sums }
 
 module _ (e v : Scene) (s : StandsFor e v) where

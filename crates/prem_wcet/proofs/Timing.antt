@@ -25,8 +25,8 @@ use Rattle.prem_place.specs.declared.placed.PlacedTask.{PlacedTask}
 use Rattle.prem_tasks.specs.Broken.{TaskSet}
 use Rattle.prem_tasks.specs.Compiled.{CompiledText, coded_in, job_bounds}
 use Rattle.prem_tasks.specs.At.{placed_by, placed_broken}
-use Rattle.prem_sets_sound.proofs.AcceptedLemmas.Follow.{both_none, not_late}
-use Rattle.prem_sets_sound.proofs.AcceptedLemmas.Rules.{none_among}
+use Rattle.prem_sets_sound.proofs.ImagePremisesLemmas.Follow.{both_none, not_late}
+use Rattle.prem_sets_sound.proofs.ImagePremisesLemmas.Rules.{none_among}
 use Rattle.prem_compile.specs.Telling.Longest.{HasBound, longest_in}
 use Rattle.prem_compile.specs.Joined.{HasPlaces, IsMadeAt}
 use Rattle.prem_compile.specs.declared.compiled.Compiled.{Compiled}

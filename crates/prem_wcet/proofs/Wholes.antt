@@ -36,9 +36,9 @@ use Rattle.prem_place.proofs.PlacingLemmas.Stood.{all_lie, first_lies, rest_lie}
 use Rattle.prem_tasks.specs.Broken.{TaskText, TaskSet, programs_of, coded_of as coded_tasks, text_rules, program_rules, range_rules, late_refusal}
 use Rattle.prem_tasks.specs.Compiled.{coded_in}
 use Rattle.prem_tasks.specs.At.{broken_early, code_broken, placed_broken}
-use Rattle.prem_sets_sound.proofs.AcceptedLemmas.Follow.{both_none, not_late}
-use Rattle.prem_sets_sound.proofs.AcceptedLemmas.Rules.{none_among}
-use Rattle.prem_sets_sound.proofs.EachLemmas.Filled.{not_exceeding}
+use Rattle.prem_sets_sound.proofs.ImagePremisesLemmas.Follow.{both_none, not_late}
+use Rattle.prem_sets_sound.proofs.ImagePremisesLemmas.Rules.{none_among}
+use Rattle.prem_sets_sound.proofs.TaskRunsLemmas.Filled.{not_exceeding}
 use Rattle.prem_compile.specs.Joined.{HasPlaces, IsMadeAt}
 use Rattle.prem_compile.specs.declared.compiled.Compiled.{Compiled}
 use Rattle.prem_compile.proofs.Stopped.{places_apart}

@@ -2,12 +2,12 @@
 use Rattle.std.specs.Prelude.{◌≡◌}
 use Rattle.prem_bounds.specs.Scale.{clipped}
 use Rattle.prem_bounds.specs.ToldSums.{clipped_sums}
-use Rattle.prem_wcet_laws.specs.Counts.{Count}
+use Rattle.prem_wcet_laws.specs.Counts.{PathCount}
 use Rattle.prem_wcet_laws.specs.Scopes.{Fact}
 use Rattle.prem_wcet.specs.Same.{AreSame}
 
 -- counts that are told alike
-pub record AreAlike (a b : Count) : Type 0 where
+pub record AreAlike (a b : PathCount) : Type 0 where
   pub total : clipped a.total ≡ clipped b.total
   pub sums : clipped_sums a.sums ≡ clipped_sums b.sums
 

@@ -4,7 +4,7 @@ use Rattle.prem_layout.specs.Footprint.{lines_of}
 use Rattle.prem_wcet_laws.specs.Scopes.{Scene, charge_with, code_ranges}
 use Rattle.prem_asm.specs.Pieces.{size_of}
 use Rattle.prem_layout.specs.Template.Terms.{nonzero}
-use Rattle.prem_wcet_laws.specs.Counts.{Count, quiet, then_count}
+use Rattle.prem_wcet_laws.specs.Counts.{PathCount, quiet, then_count}
 use Rattle.prem_wcet_laws.specs.Least.{own}
 use Rattle.prem_wcet.specs.Outlines.{Outline, ended, plain, calling, choice, turning, between, data_between, passage_in, front_in, edge_in, closed_in, call_parted, choice_parted}
 use Rattle.prem_wcet.specs.Outlines.{landing_in, passing_in, first_place, second_place, inner_place, parted_in}
@@ -29,11 +29,11 @@ whole_in e at before o last =
     charge_with e at (between before o last) (lines_of e.plant.line (code_ranges e at (between before o last) ++ data_between e before o last)) (lines_of e.plant.line (data_between e before o last))
 
 -- statements alone, at a place
-abbrev pub alone_in : Scene → (at : ℕ) → Outline → Count
+abbrev pub alone_in : Scene → (at : ℕ) → Outline → PathCount
 alone_in e at o = then_count (quiet (passage_in e at no_edge (front_in e o) (edge_in e no_edge o))) (closed_in e no_edge at o)
 
 -- the first statement, where it has marked calls, between its edges
-abbrev pub cut_count_in : Scene → (at : ℕ) → Outline → Count
+abbrev pub cut_count_in : Scene → (at : ℕ) → Outline → PathCount
 cut_count_in e at ended = quiet 0
 cut_count_in e at (plain code names rest) = quiet 0
 cut_count_in e at (calling code names arguments count callee landing rest) = call_parted e callee
@@ -84,5 +84,5 @@ abbrev pub leaving_of : OutlineTree → Edge
 leaving_of o = record { pieces = pieces_of o.leaving.now; globals = items_of o.leaving_names; below = [] }
 
 -- what it counts at a place
-abbrev pub function_parted : Scene → (at : ℕ) → OutlineTree → Count
+abbrev pub function_parted : Scene → (at : ℕ) → OutlineTree → PathCount
 function_parted e at o = parted_in e at (entry_of o) (leaving_of o) (parts_of (items_of o.body))

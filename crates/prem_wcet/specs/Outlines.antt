@@ -8,7 +8,7 @@ use Rattle.prem_layout.specs.Footprint.{lines_of}
 use Rattle.prem_layout.specs.Bounds.{job_weight}
 use Rattle.prem_wcet_laws.specs.Scopes.{Span, Scene, code_ranges, data_ranges, charge, charge_with}
 use Rattle.prem_wcet_laws.specs.Least.{own, own_jump, own_turns, called_least}
-use Rattle.prem_wcet_laws.specs.Counts.{Count, quiet, then_count, either_count}
+use Rattle.prem_wcet_laws.specs.Counts.{PathCount, quiet, then_count, either_count}
 use Rattle.prem_wcet_laws.specs.Parted.{cuts, by_cut, Edge, no_edge, bottom_of, argument_bytes, called_parted, turn_count}
 
 -- A statement and those behind it: all its code, the globals that it names outside of other statements, and its parts. A choice has as many jumps
@@ -143,16 +143,16 @@ passage_in e at before o last =
     (own e before.pieces + least_in e (at + size_of before.pieces) o + own e last.pieces)
 
 -- a choice and a call, with what they count
-abbrev pub choice_parted : Scene → (skips : ℕ) → (taken other : Count) → Count
+abbrev pub choice_parted : Scene → (skips : ℕ) → (taken other : PathCount) → PathCount
 choice_parted e skips taken other =
     then_count (quiet (job_weight e.plant (branch_of (nonzero 10))))
     (either_count (then_count taken (quiet (skips * own_jump e))) (then_count (quiet (own_jump e)) other))
 
-abbrev pub call_parted : Scene → ℕ → Count
+abbrev pub call_parted : Scene → ℕ → PathCount
 call_parted e f = then_count (quiet (own_jump e)) (called_parted e f)
 
 -- What stands behind the passage that statements at a place begin. A passage begins behind each statement with marked calls, and within it.
-abbrev pub closed_in : Scene → (last : Edge) → (at : ℕ) → Outline → Count
+abbrev pub closed_in : Scene → (last : Edge) → (at : ℕ) → Outline → PathCount
 closed_in e last at ended = quiet 0
 closed_in e last at (plain code names rest) = closed_in e last (at + size_of code) rest
 closed_in e last at (calling code names arguments count callee landing rest) =
@@ -183,6 +183,6 @@ closed_in e last at (turning code names first turns head before body behind rest
     (closed_in e last (at + size_of code) rest)
 
 -- statements behind an edge that begins at a place, before another edge
-abbrev pub parted_in : Scene → (at : ℕ) → (before last : Edge) → Outline → Count
+abbrev pub parted_in : Scene → (at : ℕ) → (before last : Edge) → Outline → PathCount
 parted_in e at before last o =
     then_count (quiet (passage_in e at before (front_in e o) (edge_in e last o))) (closed_in e last (at + size_of before.pieces) o)

@@ -38,7 +38,7 @@ use std::alloc::{AllocError, Global};
 
 /// What is known of the first functions of a task.
 #[derive(Drop)]
-pub struct Known {
+pub struct KnownFunctions {
     /// All functions as their callers see them.
     pub faces: Vec<Face>,
     pub facts: Vec<Fact>,
@@ -182,7 +182,7 @@ fn fact_of(
 fn next_fact(
     alloc: Global,
     t: &PlacedTask,
-    known: &Known,
+    known: &KnownFunctions,
     rule: &Scale,
     p: &Plant,
 ) -> Result<Fact, AllocError>
@@ -215,7 +215,7 @@ fn next_fact(
 }
 
 /// What it costs where all lines are found.
-fn next_cost(t: &PlacedTask, known: &Known, p: &Plant) -> u64
+fn next_cost(t: &PlacedTask, known: &KnownFunctions, p: &Plant) -> u64
     requires task { StandsWhole p.now t.now }
     requires plant { IsPlant p.now }
     requires there { length known.now.facts.items < length (items_of t.now.table.code) }
@@ -233,20 +233,20 @@ fn next_cost(t: &PlacedTask, known: &Known, p: &Plant) -> u64
 }
 
 /// What is known of one more function.
-fn with_next(known: Known, fact: Fact, cost: u64) -> Result<Known, AllocError>
+fn with_next(known: KnownFunctions, fact: Fact, cost: u64) -> Result<KnownFunctions, AllocError>
     requires { length known.facts.items < 256 }
     ensures faces { IfOk result (λ k. k.faces.items ≡ known.faces.items) }
     ensures facts { IfOk result (λ k. k.facts.items ≡ known.facts.items ++ fact ∷ []) }
     ensures costs { IfOk result (λ k. k.costs ≡ slice_set known.costs (length known.facts.items) cost) }
 {
-    let Known {
+    let KnownFunctions {
         faces,
         facts: mut all,
         mut costs,
     } = known;
     costs[all.len()] = cost;
     all.push(fact)?;
-    Ok(Known {
+    Ok(KnownFunctions {
         faces,
         facts: all,
         costs,
@@ -260,7 +260,7 @@ pub fn known_of(
     lengths: &[u32],
     rule: &Scale,
     p: &Plant,
-) -> Result<Known, AllocError>
+) -> Result<KnownFunctions, AllocError>
     requires task { StandsWhole p.now t.now }
     requires plant { IsPlant p.now }
     requires rule { IsRule p.now rule.now }
@@ -269,7 +269,7 @@ pub fn known_of(
     ensures known { IfOk result (λ k. AreKnown p.now (with_lengths lengths.now (plans_of t.now)) (coded_of t.now).program t.now.places (items_of t.now.table.code) k.facts.items k.costs) }
 {
     let faces = faces_of(alloc, t.program.routines.items(), lengths)?;
-    let mut known = Known {
+    let mut known = KnownFunctions {
         faces,
         facts: Vec::new(alloc),
         costs: [0; 256],

@@ -116,7 +116,7 @@ fn behind_code(at: u32, code: &[Piece]) -> u32
 }
 
 /// Where the next statement stands.
-fn behind(at: u32, part: &Part<'_>) -> u32
+fn next_statement_place(at: u32, part: &Part<'_>) -> u32
     requires { at + size_of (part_code part.now) < 2 ^ 32 }
     ensures { result ≡ at + size_of (part_code part.now) }
 {
@@ -244,7 +244,7 @@ fn apart(scene: &Scene, at: u32, parts: &[Part<'_>]) -> Result<u64, AllocError>
         let whole = charge_one(scene, place, parts, n)?;
         let divided = by_parts(scene, place, &parts[n])?;
         sum = plus(sum, whole.min(divided));
-        place = behind(place, &parts[n]);
+        place = next_statement_place(place, &parts[n]);
     }
     Ok(sum)
 }

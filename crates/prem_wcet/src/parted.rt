@@ -17,7 +17,9 @@ ghost use Rattle.prem_wcet.specs.Outlines.{below_in, between, call_parted, choic
 ghost use Rattle.prem_wcet.specs.PartsOf.{part_code, part_of, parts_of};
 ghost use Rattle.prem_wcet.specs.SceneOf.{IsScene, face_at, scene_in};
 
-use crate::count::{Count, either_count, marked_count, no_count, quiet, then_count, turned_count};
+use crate::count::{
+    PathCount, either_count, marked_count, no_count, quiet, then_count, turned_count,
+};
 use crate::least::{first_place, inner_place, least, own, own_jump, second_place};
 use crate::outline::{Outline, Part};
 use crate::scene::{Scene, cuts, ranges_of, with_edge};
@@ -89,7 +91,7 @@ fn passage(
 }
 
 /// What a call counts of a function that isn't marked.
-pub fn fact_parted(scene: &Scene, f: usize) -> Count
+pub fn fact_parted(scene: &Scene, f: usize) -> PathCount
     requires { IsScene scene.now }
     ensures { count_in result ≡ (fact_of (scene_in scene.now) f).parted }
 {
@@ -110,7 +112,7 @@ fn stated_of(scene: &Scene, f: usize) -> Option<u32>
 }
 
 /// What a call counts in which a marked one is, or which is one.
-fn called_parted(scene: &Scene, f: usize) -> Count
+fn called_parted(scene: &Scene, f: usize) -> PathCount
     requires { IsScene scene.now }
     ensures { count_in result ≡ called_parted (scene_in scene.now) f }
 {
@@ -197,7 +199,7 @@ fn landing<'a>(part: &'a Part<'_>) -> Edge<'a>
 }
 
 /// A call that is a marked one or has one in it, from its jump on.
-fn call_count(scene: &Scene, callee: usize) -> Count
+fn call_count(scene: &Scene, callee: usize) -> PathCount
     requires { IsScene scene.now }
     ensures { AreAlike (count_in result) (call_parted (scene_in scene.now) callee) }
 {
@@ -208,7 +210,7 @@ fn call_count(scene: &Scene, callee: usize) -> Count
 }
 
 /// A choice with what its sides count.
-fn choice_count(scene: &Scene, skips: u32, taken: Count, other: Count) -> Count
+fn choice_count(scene: &Scene, skips: u32, taken: PathCount, other: PathCount) -> PathCount
     requires { IsScene scene.now }
     ensures { AreAlike (count_in result) (choice_parted (scene_in scene.now) skips (count_in taken) (count_in other)) }
 {
@@ -223,7 +225,7 @@ fn choice_count(scene: &Scene, skips: u32, taken: Count, other: Count) -> Count
 }
 
 /// A loop with what its head and its body count.
-fn turn_count(scene: &Scene, turns: u32, head: u64, body: Count) -> Count
+fn turn_count(scene: &Scene, turns: u32, head: u64, body: PathCount) -> PathCount
     requires { IsScene scene.now }
     ensures { AreAlike (count_in result) (turn_count (scene_in scene.now) turns (nonzero 10) head (count_in body)) }
 {
@@ -247,7 +249,7 @@ fn cut_choice(
     skips: u32,
     taken: &[Part<'_>],
     other: &[Part<'_>],
-) -> Result<Count, AllocError>
+) -> Result<PathCount, AllocError>
     requires scene { IsScene scene.now }
     requires taken { FitsAt (first_place at (pieces_of condition.now)) (parts_of taken.now) }
     requires other { FitsAt (second_place at (pieces_of condition.now) (parts_of taken.now) skips) (parts_of other.now) }
@@ -276,7 +278,7 @@ fn cut_turns(
     before: &[Piece],
     body: &[Part<'_>],
     behind: &[Piece],
-) -> Result<Count, AllocError>
+) -> Result<PathCount, AllocError>
     requires scene { IsScene scene.now }
     requires body { FitsAt (inner_place at (pieces_of first.now) (pieces_of head.now) (pieces_of before.now)) (parts_of body.now) }
     requires below { BelowFits (scene_in scene.now) (parts_of body.now) }
@@ -300,7 +302,7 @@ fn cut_turns(
 
 /// A statement that has marked calls in it, between the edges of the passages around it.
 #[cycle(parted)]
-fn cut_count(scene: &Scene, at: u32, part: &Part<'_>) -> Result<Count, AllocError>
+fn cut_count(scene: &Scene, at: u32, part: &Part<'_>) -> Result<PathCount, AllocError>
     requires scene { IsScene scene.now }
     requires fits { FitsAt at (part_of part.now) }
     requires below { BelowFits (scene_in scene.now) (part_of part.now) }
@@ -336,9 +338,9 @@ fn behind_cut(
     part: &Part<'_>,
     front: &[Part<'_>],
     edge: &Edge<'_>,
-    cut: Count,
-    rest: Count,
-) -> Result<Count, AllocError>
+    cut: PathCount,
+    rest: PathCount,
+) -> Result<PathCount, AllocError>
     requires scene { IsScene scene.now }
     requires place { landing_place at (part_of part.now) + size_of (between (landing_edge (part_of part.now)) (parts_of front.now) (edge_of edge.now)).pieces < 2 ^ 32 }
     requires fits { FitsAt (landing_place at (part_of part.now) + size_of (landing_edge (part_of part.now)).pieces) (parts_of front.now) }
@@ -378,7 +380,7 @@ fn parted<'a>(
     before: &Edge<'_>,
     parts: &'a [Part<'_>],
     last: &Edge<'a>,
-) -> Result<Count, AllocError>
+) -> Result<PathCount, AllocError>
     requires scene { IsScene scene.now }
     requires place { at + size_of (between (edge_of before.now) (parts_of parts.now) (edge_of last.now)).pieces < 2 ^ 32 }
     requires fits { FitsAt (at + size_of (pieces_of before.now.pieces.now)) (parts_of parts.now) }
@@ -408,7 +410,7 @@ fn parted<'a>(
 
 /// Statements that other code stands around, which is counted apart.
 #[cycle(parted)]
-fn alone(scene: &Scene, at: u32, parts: &[Part<'_>]) -> Result<Count, AllocError>
+fn alone(scene: &Scene, at: u32, parts: &[Part<'_>]) -> Result<PathCount, AllocError>
     requires scene { IsScene scene.now }
     requires fits { FitsAt at (parts_of parts.now) }
     requires below { BelowFits (scene_in scene.now) (parts_of parts.now) }
@@ -419,7 +421,11 @@ fn alone(scene: &Scene, at: u32, parts: &[Part<'_>]) -> Result<Count, AllocError
 }
 
 /// The code of a function.
-pub fn parted_function(scene: &Scene, at: u32, outline: &Outline<'_>) -> Result<Count, AllocError>
+pub fn parted_function(
+    scene: &Scene,
+    at: u32,
+    outline: &Outline<'_>,
+) -> Result<PathCount, AllocError>
     requires scene { IsScene scene.now }
     requires place { at + size_of (pieces_of outline.now.entry.now) + size_of (code_of (parts_of (items_of outline.now.body))) + size_of (pieces_of outline.now.leaving.now) < 2 ^ 32 }
     requires fits { FitsAt (at + size_of (pieces_of outline.now.entry.now)) (parts_of (items_of outline.now.body)) }

@@ -10,7 +10,7 @@ ghost use Rattle.prem_wcet.specs.Outlines.{cut_in};
 ghost use Rattle.prem_wcet.specs.PartsOf.{part_of, parts_of};
 ghost use Rattle.prem_wcet.specs.SceneOf.{IsScene, scene_in};
 
-use crate::count::Count;
+use crate::count::PathCount;
 use crate::outline::Part;
 use prem_asm::{Piece, Sequence};
 use prem_bounds::scale::Scale;
@@ -30,7 +30,7 @@ pub struct Fact {
     /// What a call counts, where no marked call is in it.
     pub least: u64,
     /// What a call counts, where one is.
-    pub parted: Count,
+    pub parted: PathCount,
 }
 
 /// A function as its callers see it.

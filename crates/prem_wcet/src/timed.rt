@@ -16,7 +16,7 @@ ghost use Rattle.prem_wcet.specs.TimedOf.{AreSmall, EndsTimed, EndsTimedAt, IsTi
 use crate::opens::opens;
 use crate::task::times_in;
 use prem_compile::coding::{CodedTask, coded_tasks, parts_of_tasks};
-use prem_compile::late::places_of;
+use prem_compile::placed_stages::places_of;
 use prem_compile::telling::{NamedParts, named_parts};
 use prem_compile::{CompileFail, Compiled, TaskSet, compile_placed};
 use prem_list::Sequence;
@@ -251,7 +251,7 @@ fn timed_placed(
 }
 
 /// The tasks at the places of their parts, and what comes behind them.
-fn behind_layout(
+fn timed_in_layout(
     alloc: Global,
     set: &TaskSet,
     tops: &[u32],
@@ -272,7 +272,7 @@ fn behind_layout(
 }
 
 /// The rule on memory, the default places of all parts, and what comes behind them.
-fn behind_code(
+fn timed_coded(
     alloc: Global,
     set: &TaskSet,
     tops: &[u32],
@@ -284,7 +284,7 @@ fn behind_code(
     let plant = set.plant();
     let parts = parts_of_tasks(alloc, set, &tasks)?;
     let layout = places_of(alloc, &parts, plant)?;
-    behind_layout(alloc, set, tops, tasks, parts, layout)
+    timed_in_layout(alloc, set, tops, tasks, parts, layout)
 }
 
 /// All groups of rules in their order, each over all tasks before the next, then the image and the times.
@@ -293,7 +293,7 @@ fn stages(alloc: Global, set: &TaskSet, tops: &[u32]) -> Result<Timed, Stop>
 {
     let programs = checked_programs(alloc, set)?;
     let tasks = coded_tasks(alloc, set, &programs)?;
-    behind_code(alloc, set, tops, tasks)
+    timed_coded(alloc, set, tops, tasks)
 }
 
 /// What a task set is compiled to, as by `compile`, with what the jobs of its tasks take at most, and what they keep closed to transfers of

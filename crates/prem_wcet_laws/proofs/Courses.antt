@@ -1,6 +1,6 @@
 -- Courses of runs, with marked calls, go together as divisions do.
 use Rattle.prem_wcet_laws.proofs.Prelude.{run-followed, choose_both, Pieces, followed, size_of, Setting, Calls, Ending, Falls, Returns, Stuck, with_trace, then_run, Loop, left_loop}
-use Rattle.prem_wcet_laws.proofs.Prelude.{run_turns, run, TaskState, Did, Jalr, PmMem, taken, path_joined, job_weight, Takes, Cuts, chained, taking, sums_of_path, Plant, Count, quiet}
+use Rattle.prem_wcet_laws.proofs.Prelude.{run_turns, run, TaskState, Did, Jalr, PmMem, taken, path_joined, job_weight, Takes, Cuts, chained, taking, sums_of_path, Plant, PathCount, quiet}
 use Rattle.prem_wcet_laws.proofs.Prelude.{then_count, turned_count, IsNoMore, Division, ends, alone, together, section, joined, steps_of, charge_of, path_of, count_of, lone_charge}
 use Rattle.prem_wcet_laws.proofs.Prelude.{scope_charge, IsDivision, IsCourse, Divides, RunDivides, Courses, RunCourses, ◌≡◌, ℕ, zero, suc, ◌+◌, refl, ap, ◌∙◌, sym, subst, arith, true, List}
 use Rattle.prem_wcet_laws.proofs.Prelude.{[], ◌∷◌, ◌++◌, append-nil}
@@ -55,7 +55,7 @@ module _ (p : Plant) (Marked : List Did → ℕ → Type 0) where
   run_course m (Returns back t trace) h = course_of m trace h
   run_course m Stuck h = tt
 
-  pub courses_join : (m n : Count) (xs ys : List Did) → Courses p Marked m xs → Courses p Marked n ys → Courses p Marked (then_count m n) (xs ++ ys)
+  pub courses_join : (m n : PathCount) (xs ys : List Did) → Courses p Marked m xs → Courses p Marked n ys → Courses p Marked (then_count m n) (xs ++ ys)
   courses_join m n xs ys h k = record {
     division = joined h.division k.division;
     keeps = course_keeps h.division k.division h.keeps k.keeps;
@@ -64,7 +64,7 @@ module _ (p : Plant) (Marked : List Did → ℕ → Type 0) where
     counted = no_more_then _ (then_count (count_of p h.division) (count_of p k.division)) (then_count m n) (by_same (joined_count h.division k.division)) (then_no_more _ _ m n h.counted k.counted);
   }
 
-  pub courses_more : (m n : Count) (xs : List Did) → IsNoMore m n → Courses p Marked m xs → Courses p Marked n xs
+  pub courses_more : (m n : PathCount) (xs : List Did) → IsNoMore m n → Courses p Marked m xs → Courses p Marked n xs
   courses_more m n xs le h = record { division = h.division; keeps = h.keeps; steps_are = h.steps_are; loose = h.loose; counted = no_more_then _ m n h.counted le }
 
   pub courses_none : Courses p Marked (quiet 0) []
@@ -72,37 +72,37 @@ module _ (p : Plant) (Marked : List Did → ℕ → Type 0) where
 
   -- ---- runs
 
-  pub run_more : (m n : Count) (o : Ending) → IsNoMore m n → RunCourses p Marked m o → RunCourses p Marked n o
+  pub run_more : (m n : PathCount) (o : Ending) → IsNoMore m n → RunCourses p Marked m o → RunCourses p Marked n o
   run_more m n (Falls t trace) le h = courses_more m n trace le h
   run_more m n (Returns back t trace) le h = courses_more m n trace le h
   run_more m n Stuck le h = tt
 
-  pub run_with : (m n : Count) (steps : List Did) (o : Ending) → Courses p Marked m steps → RunCourses p Marked n o → RunCourses p Marked (then_count m n) (with_trace steps o)
+  pub run_with : (m n : PathCount) (steps : List Did) (o : Ending) → Courses p Marked m steps → RunCourses p Marked n o → RunCourses p Marked (then_count m n) (with_trace steps o)
   run_with m n steps (Falls t trace) h k = courses_join m n steps trace h k
   run_with m n steps (Returns back t trace) h k = courses_join m n steps trace h k
   run_with m n steps Stuck h k = tt
 
   -- the run falls through, and what follows divides too
-  pub falls_then : (a b : Count) (o : Ending) (next : TaskState → Ending) (u : TaskState) (trace : List Did) → o ≡ Falls u trace →
+  pub falls_then : (a b : PathCount) (o : Ending) (next : TaskState → Ending) (u : TaskState) (trace : List Did) → o ≡ Falls u trace →
       RunCourses p Marked a o → RunCourses p Marked b (next u) → RunCourses p Marked (then_count a b) (then_run o next)
   falls_then a b o next u trace goes h k =
       subst (λ x. RunCourses p Marked (then_count a b) (then_run x next)) (sym goes) (run_with a b trace (next u) (subst (RunCourses p Marked a) goes h) k)
 
   -- whatever it does, quiet steps follow
-  pub any_then : (a : Count) (n : ℕ) (o : Ending) (next : TaskState → Ending) → RunCourses p Marked a o →
+  pub any_then : (a : PathCount) (n : ℕ) (o : Ending) (next : TaskState → Ending) → RunCourses p Marked a o →
       ((u : TaskState) → RunCourses p Marked (quiet n) (next u)) → RunCourses p Marked (then_count a (quiet n)) (then_run o next)
   any_then a n (Falls u trace) next h k = run_with a (quiet n) trace (next u) h (k u)
   any_then a n (Returns back u trace) next h k = courses_more a (then_count a (quiet n)) trace (grows a n) h
   any_then a n Stuck next h k = tt
 
   -- nothing follows
-  pub nothing_then : (a : Count) (o : Ending) → RunCourses p Marked a o → RunCourses p Marked a (then_run o (λ u. Falls u []))
+  pub nothing_then : (a : PathCount) (o : Ending) → RunCourses p Marked a o → RunCourses p Marked a (then_run o (λ u. Falls u []))
   nothing_then a (Falls u trace) h = subst (λ x. Courses p Marked a x) (sym (append-nil trace)) h
   nothing_then a (Returns back u trace) h = h
   nothing_then a Stuck h = tt
 
   -- two pieces
-  pub seq : (s : Setting) (calls : Calls) (a b : Count) (whole first rest : Pieces) → whole ≡ followed first rest →
+  pub seq : (s : Setting) (calls : Calls) (a b : PathCount) (whole first rest : Pieces) → whole ≡ followed first rest →
       (at : ℕ) (t u : TaskState) (trace : List Did) → run s calls at first t ≡ Falls u trace →
       RunCourses p Marked a (run s calls at first t) → RunCourses p Marked b (run s calls (at + size_of first) rest u) → RunCourses p Marked (then_count a b) (run s calls at whole t)
   seq s calls a b whole first rest is at t u trace goes h k =
@@ -113,7 +113,7 @@ module _ (p : Plant) (Marked : List Did → ℕ → Type 0) where
   -- ---- loops
 
   -- behind a part of a loop: where the run falls to, with what holds there
-  pub record Part (a : Count) (o : Ending) (Next : TaskState → Type 0) : Type 0 where
+  pub record Part (a : PathCount) (o : Ending) (Next : TaskState → Type 0) : Type 0 where
     pub to : TaskState
     pub trace : List Did
     pub goes : o ≡ Falls to trace
@@ -121,13 +121,13 @@ module _ (p : Plant) (Marked : List Did → ℕ → Type 0) where
     pub next : Next to
 
   -- a turn counts so much, and the way out
-  abbrev pub turn_of : (h b j : ℕ) (y : Count) → Count
+  abbrev pub turn_of : (h b j : ℕ) (y : PathCount) → PathCount
   turn_of h b j y = then_count (quiet (h + b)) (then_count y (quiet j))
 
-  abbrev pub out_of : (h b j : ℕ) → Count
+  abbrev pub out_of : (h b j : ℕ) → PathCount
   out_of h b j = quiet (h + b + j)
 
-  leaves_less : (h b j : ℕ) (y : Count) (r : ℕ) → IsNoMore (then_count (quiet h) (then_count (quiet b) (quiet j))) (turned_count r (turn_of h b j y) (out_of h b j))
+  leaves_less : (h b j : ℕ) (y : PathCount) (r : ℕ) → IsNoMore (then_count (quiet h) (then_count (quiet b) (quiet j))) (turned_count r (turn_of h b j y) (out_of h b j))
   leaves_less h b j y r =
       no_more_then _ (out_of h b j) _
       (by_same (ap (then_count (quiet h)) (quiet_then b j) ∙ quiet_then h (b + j) ∙ ap quiet (sums h b j)))
@@ -135,7 +135,7 @@ module _ (p : Plant) (Marked : List Did → ℕ → Type 0) where
         sums : (h b j : ℕ) → h + (b + j) ≡ h + b + j
         sums h b j = omega arith
 
-  turns_less : (h b j : ℕ) (y : Count) (r : ℕ) →
+  turns_less : (h b j : ℕ) (y : PathCount) (r : ℕ) →
       IsNoMore (then_count (quiet h) (then_count (quiet b) (then_count y (then_count (quiet j) (turned_count r (turn_of h b j y) (out_of h b j))))))
       (turned_count (suc r) (turn_of h b j y) (out_of h b j))
   turns_less h b j y r =
@@ -145,7 +145,7 @@ module _ (p : Plant) (Marked : List Did → ℕ → Type 0) where
       ∙ ap (then_count (quiet (h + b))) (sym (then_assoc y (quiet j) n)) ∙ sym (then_assoc (quiet (h + b)) (then_count y (quiet j)) n)))
       (turned_next r (turn_of h b j y) (out_of h b j))
 
-  pub turns_course : (h b : ℕ) (y : Count) (j : ℕ) (l : Loop) (I M : ℕ → TaskState → Type 0) →
+  pub turns_course : (h b : ℕ) (y : PathCount) (j : ℕ) (l : Loop) (I M : ℕ → TaskState → Type 0) →
       ((r : ℕ) (t : TaskState) → I r t → Part (quiet h) (l.head t) (M r)) → ((t : TaskState) → Courses p Marked (quiet b) (l.enters t)) →
       ((t : TaskState) → Courses p Marked (then_count (quiet b) (quiet j)) (l.leaves t)) →
       ((r : ℕ) (u : TaskState) → M (suc r) u → l.test u ≡ true → Part y (l.body u) (I r)) → ((t : TaskState) → Courses p Marked (quiet j) (l.back t)) →

@@ -9,7 +9,7 @@ use Rattle.prem_wcet_laws.proofs.Prelude.{StepsFit, with_globals, Matches, slot_
 use Rattle.prem_wcet_laws.proofs.Prelude.{load_slot, store_slot, bound_test, step_code, count_code, turn_code, argument_code, target_code, steps_code, only, constant, nonzero, term_code}
 use Rattle.prem_wcet_laws.proofs.Prelude.{Access, and_then, truth_of, IsAmong, callees_in, Term, Steps, Done, SetLocal, SetScalar, SetElement, Output, Input, If, For, While, Call, Routine}
 use Rattle.prem_wcet_laws.proofs.Prelude.{Limits, calls_below, ProgramState, value, values, with_local, with_output, take_input, store, choose, holds, in_bound, int_local, loop_test}
-use Rattle.prem_wcet_laws.proofs.Prelude.{loop_step, counting, bounded, with_target, Place, Count, quiet, then_count, IsNoMore, Divides, RunDivides, Courses, RunCourses, IsNative, own}
+use Rattle.prem_wcet_laws.proofs.Prelude.{loop_step, counting, bounded, with_target, Place, PathCount, quiet, then_count, IsNoMore, Divides, RunDivides, Courses, RunCourses, IsNative, own}
 use Rattle.prem_wcet_laws.proofs.Prelude.{own_jump, term_of, bound_code, first_code, counter_code, turn_of, taken_place, other_place, body_place, least, narrowed, cuts, has_cut, front}
 use Rattle.prem_wcet_laws.proofs.Prelude.{by_cut, Edge, no_edge, passing, landing, next_edge, passage, Begun, counted, begins, opened, called_parted, choice_count, turn_count, landing_place}
 use Rattle.prem_wcet_laws.proofs.Prelude.{parted, Mixes, StepsCourse, Stands, Scene, number_at, put_number, value_in, truth, Int, ◌≡◌, ◌≢◌, ℕ, zero, suc, ◌+◌, ◌-◌, ◌*◌, ◌%◌, ◌^◌, ◌<◌, ◌≤◌}
@@ -41,7 +41,7 @@ module _ (e : Scene) (s : Setting) (gs : Globals) (parts : Parts) (cs every : Ca
   abbrev code : ℕ → Steps → Pieces
   code n steps = steps_code e.parts n steps
 
-  abbrev Run : (most : Count) (at : ℕ) → Pieces → TaskState → Type 0
+  abbrev Run : (most : PathCount) (at : ℕ) → Pieces → TaskState → Type 0
   Run most at ps t = RunCourses e.plant Marked most (run s calls at ps t)
 
   -- statements of which a list begins
@@ -129,7 +129,7 @@ module _ (e : Scene) (s : Setting) (gs : Globals) (parts : Parts) (cs every : Ca
 
   -- ---- choices
 
-  choice_divides : (at : ℕ) (test : Test) (taken other : Pieces) (t : TaskState) (x y : Count) → (test_holds test t ≡ true → Run x (at + 8) taken t) →
+  choice_divides : (at : ℕ) (test : Test) (taken other : Pieces) (t : TaskState) (x y : PathCount) → (test_holds test t ≡ true → Run x (at + 8) taken t) →
       (test_holds test t ≡ false → Run y (other_at at taken other) other t) →
       Run (choice_count e test other x y) at (either test taken other no_pieces) t
   choice_divides at test taken other t x y on off =
@@ -152,7 +152,7 @@ module _ (e : Scene) (s : Setting) (gs : Globals) (parts : Parts) (cs every : Ca
       (then_no_more b _ b _ (same_count b) (either_second _ (then_count x (quiet n)) (then_count j y) (same_count _))))
       (run_with e.plant Marked (then_count b j) y (other_steps at test oth t) (run s calls oth other t) (other_step at test oth t) (off is))))
 
-  if_divides : (n at : ℕ) (pl : _) (condition : Term) (taken other : Steps) (t : TaskState) (st after : ProgramState) (x y : Count) → Here n at (If pl condition taken other Done) t st after →
+  if_divides : (n at : ℕ) (pl : _) (condition : Term) (taken other : Steps) (t : TaskState) (st after : ProgramState) (x y : PathCount) → Here n at (If pl condition taken other Done) t st after →
       ((u : TaskState) (q : ProgramState) → Here n (taken_place at (term_of e 10 condition)) taken u st q → Run x (taken_place at (term_of e 10 condition)) (code n taken) u) →
       ((u : TaskState) (q : ProgramState) → Here (n + counters_in taken) (other_place at (term_of e 10 condition) (code n taken) (code (n + counters_in taken) other)) other u st q →
       Run y (other_place at (term_of e 10 condition) (code n taken) (code (n + counters_in taken) other)) (code (n + counters_in taken) other) u) →
@@ -234,7 +234,7 @@ module _ (e : Scene) (s : Setting) (gs : Globals) (parts : Parts) (cs every : Ca
       then_ok (turn q) (counting line r test turn) fin e2
 
   for_divides : (n at : ℕ) (pl : Place) (i : ℕ) (low : Term) (closed : Bool) (high : Term) (step turns : ℕ) (body : Steps) (t : TaskState)
-      (st after : ProgramState) (x : Count) → Here n at (For pl i low closed high step turns body Done) t st after →
+      (st after : ProgramState) (x : PathCount) → Here n at (For pl i low closed high step turns body Done) t st after →
       ((u : TaskState) (q q1 : ProgramState) → Here n (body_place at (first_code e i low) (bound_code e i high)) body u q q1 →
       Run x (body_place at (first_code e i low) (bound_code e i high)) (code n body) u) →
       Run (then_count (quiet (own e (first_code e i low)))
@@ -404,7 +404,7 @@ module _ (e : Scene) (s : Setting) (gs : Globals) (parts : Parts) (cs every : Ca
         one_less : (r m : ℕ) → suc r ≡ suc m → r ≡ m
         one_less r m is = omega (arith, is)
 
-  while_divides : (n at : ℕ) (pl : Place) (turns : ℕ) (condition : Term) (body : Steps) (t : TaskState) (st after : ProgramState) (x : Count) →
+  while_divides : (n at : ℕ) (pl : Place) (turns : ℕ) (condition : Term) (body : Steps) (t : TaskState) (st after : ProgramState) (x : PathCount) →
       Here n at (While pl turns condition body Done) t st after →
       ((u : TaskState) (q q1 : ProgramState) → Here (n + 1) (body_place at (counter_code n turns) (turn_of e n condition) + 12) body u q q1 →
       Run x (body_place at (counter_code n turns) (turn_of e n condition) + 12) (code (n + 1) body) u) →
@@ -626,12 +626,12 @@ module _ (e : Scene) (s : Setting) (gs : Globals) (parts : Parts) (cs every : Ca
   trace_of (Returns back t trace) g = (trace, refl)
   trace_of Stuck g = absurd g
 
-  traced_courses : (m : Count) (o : Ending) (steps : List Did) → HasTrace o steps → RunCourses e.plant Marked m o → Courses e.plant Marked m steps
+  traced_courses : (m : PathCount) (o : Ending) (steps : List Did) → HasTrace o steps → RunCourses e.plant Marked m o → Courses e.plant Marked m steps
   traced_courses m (Falls t trace) steps h k = subst (Courses e.plant Marked m) h k
   traced_courses m (Returns back t trace) steps h k = subst (Courses e.plant Marked m) h k
   traced_courses m Stuck steps h k = absurd h
 
-  run_traced : (m : Count) (o : Ending) (steps : List Did) → HasTrace o steps → Courses e.plant Marked m steps → RunCourses e.plant Marked m o
+  run_traced : (m : PathCount) (o : Ending) (steps : List Did) → HasTrace o steps → Courses e.plant Marked m steps → RunCourses e.plant Marked m o
   run_traced m (Falls t trace) steps h k = subst (Courses e.plant Marked m) (sym h) k
   run_traced m (Returns back t trace) steps h k = subst (Courses e.plant Marked m) (sym h) k
   run_traced m Stuck steps h k = tt
@@ -657,7 +657,7 @@ module _ (e : Scene) (s : Setting) (gs : Globals) (parts : Parts) (cs every : Ca
   edge_trace edge at t x = trace_of (run s calls at edge.pieces t) (x.goes s.guard (λ g. true) calls open_ground (λ g is. refl) x.stored)
 
   -- the statements before the first marked call run through, then the edge behind them, and what is still behind it is counted
-  pub record Tailed (first : Steps) (edge last : Edge) (most : Count) (n at : ℕ) (steps : Steps) (t : TaskState) (st : ProgramState) : Type 0 where
+  pub record Tailed (first : Steps) (edge last : Edge) (most : PathCount) (n at : ℕ) (steps : Steps) (t : TaskState) (st : ProgramState) : Type 0 where
     mid : ProgramState
     none : has_cut e first ≡ false
     few : counters_in first ≤ counters_in steps
@@ -675,7 +675,7 @@ module _ (e : Scene) (s : Setting) (gs : Globals) (parts : Parts) (cs every : Ca
 
   -- a passage that begins with an edge, and what is behind it
   passage_run : (from : ℕ) (before : Edge) (t0 t : TaskState) (trace : List Did) → EdgeGoes s gs may k before from t0 → run s calls from before.pieces t0 ≡ Falls t trace →
-      (first : Steps) (edge last : Edge) (most : Count) (n : ℕ) (steps : Steps) (st : ProgramState) → Tailed first edge last most n (from + size_of before.pieces) steps t st →
+      (first : Steps) (edge last : Edge) (most : PathCount) (n : ℕ) (steps : Steps) (st : ProgramState) → Tailed first edge last most n (from + size_of before.pieces) steps t st →
       RunCourses e.plant Marked (then_count (quiet (passage e n from before first edge)) most) (run s calls from (followed before.pieces (followed (code n steps) last.pieces)) t0)
   passage_run from before t0 t trace x goes first edge last most n steps st z =
       let at = from + size_of before.pieces in
@@ -740,7 +740,7 @@ module _ (e : Scene) (s : Setting) (gs : Globals) (parts : Parts) (cs every : Ca
       (fresh at no_edge t t [] (no_edge_goes s gs may k at t) refl no_edge n at steps st (nothing_behind at) z)
 
   -- a marked call is in the first statement
-  cut_tail : (n at n2 : ℕ) (all one rest : Steps) (last : Edge) (x : Count) → code n all ≡ followed (code n one) (code n2 rest) →
+  cut_tail : (n at n2 : ℕ) (all one rest : Steps) (last : Edge) (x : PathCount) → code n all ≡ followed (code n one) (code n2 rest) →
       (t : TaskState) (st st1 after : ProgramState) → Here n at all t st after → Here n at one t st st1 →
       n ≤ n2 → n2 + counters_in rest ≤ k.slots → StepsFit gs parts every phase count under rest → run_source may source rest st1 ≡ Ok after → Run x at (code n one) t →
       ((u : TaskState) → Here n2 (at + size_of (code n one)) rest u st1 after → Home t u → Tail last n2 (at + size_of (code n one)) rest u st1) →
@@ -778,7 +778,7 @@ module _ (e : Scene) (s : Setting) (gs : Globals) (parts : Parts) (cs every : Ca
       }
 
   -- none is in it
-  quiet_tail : (n at n2 : ℕ) (all one rest first : Steps) (edge last : Edge) (most : Count) → code n all ≡ followed (code n one) (code n2 rest) →
+  quiet_tail : (n at n2 : ℕ) (all one rest first : Steps) (edge last : Edge) (most : PathCount) → code n all ≡ followed (code n one) (code n2 rest) →
       code n first ≡ followed (code n one) (code n2 (front e rest)) → (t : TaskState) (st st1 after : ProgramState) → Here n at all t st after →
       Here n at one t st st1 → n ≤ n2 → n2 + counters_in rest ≤ k.slots → StepsFit gs parts every phase count under rest → run_source may source rest st1 ≡ Ok after →
       ((u : TaskState) → Here n2 (at + size_of (code n one)) rest u st1 after → Home t u → Tailed (front e rest) edge last most n2 (at + size_of (code n one)) rest u st1) →
@@ -830,7 +830,7 @@ module _ (e : Scene) (s : Setting) (gs : Globals) (parts : Parts) (cs every : Ca
         placed a b c d e = omega (arith, e)
 
   -- one or the other
-  pick : (b : Bool) (first : Steps) (edge_cut edge last : Edge) (x y : Count) (n at : ℕ) (steps : Steps) (t : TaskState) (st : ProgramState) →
+  pick : (b : Bool) (first : Steps) (edge_cut edge last : Edge) (x y : PathCount) (n at : ℕ) (steps : Steps) (t : TaskState) (st : ProgramState) →
       (b ≡ true → Tailed Done edge_cut last (then_count (quiet 0) x) n at steps t st) →
       (b ≡ false → Tailed first edge last (then_count (quiet 0) y) n at steps t st) → Tailed (by_cut b Done first) (by_cut b edge_cut edge) last (then_count (quiet 0) (by_cut b x y)) n at steps t st
   pick true first edge_cut edge last x y n at steps t st cut quiet_ = cut refl

@@ -85,7 +85,7 @@ pub use Rattle.prem_syntax.specs.Statements.{ProgramState, choose, declare, ente
 pub use Rattle.prem_syntax.specs.Statements.{value, values, with_cell, with_local, with_new_local, with_output, with_target}
 unfoldable pub use Rattle.prem_syntax.specs.Statements.{bounded, counting}
 pub use Rattle.prem_syntax.specs.declared.tree.Place.{Place}
-pub use Rattle.prem_wcet_laws.specs.Counts.{Count, IsNoMore, either_count, marked_count, quiet, then_count, turned_count}
+pub use Rattle.prem_wcet_laws.specs.Counts.{PathCount, IsNoMore, either_count, marked_count, quiet, then_count, turned_count}
 pub use Rattle.prem_wcet_laws.specs.Divided.{AreLoose, Courses, Divides, Division, IsCourse, IsDivision, KeepsTo, RunCourses, RunDivides, StaysOn, Weighs, WithinPlaceWeights, access_lines}
 pub use Rattle.prem_wcet_laws.specs.Divided.{alone, charge_of, count_of, crowd_costs, ends, joined, lone_charge, path_of, scope_charge, section, step_charge, steps_of, together, weight_of}
 pub use Rattle.prem_wcet_laws.specs.Keeping.{AccessIn, Accesses, IsIn, IsNative, StandIn, confined_to, is_foreign, is_held}

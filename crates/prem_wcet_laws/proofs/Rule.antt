@@ -1,7 +1,7 @@
 -- Least and parted charges are no more than the rule's weights.
 use Rattle.prem_wcet_laws.proofs.Prelude.{Pieces, no_pieces, straight, either, repeat, call_to, followed, branch_of, skip_words, weighted, size_of, Test, job_weight, counters_in, locals_of}
 use Rattle.prem_wcet_laws.proofs.Prelude.{frame_of, store_slot, bound_test, step_code, count_code, argument_code, target_code, steps_code, closing, result_code, function_code, only, nonzero}
-use Rattle.prem_wcet_laws.proofs.Prelude.{Steps, Done, SetLocal, SetScalar, SetElement, Output, Input, If, For, While, Call, Routine, Count, own, own_jump, own_turns, own_choice, term_of}
+use Rattle.prem_wcet_laws.proofs.Prelude.{Steps, Done, SetLocal, SetScalar, SetElement, Output, Input, If, For, While, Call, Routine, PathCount, own, own_jump, own_turns, own_choice, term_of}
 use Rattle.prem_wcet_laws.proofs.Prelude.{bound_code, first_code, counter_code, turn_of, taken_place, other_place, body_place, behind, called_least, single, apart, least, declared, body_at}
 use Rattle.prem_wcet_laws.proofs.Prelude.{own_around, least_function, has_cut, by_cut, front, Edge, no_edge, entry, leaving, passing, landing, next_edge, passage, Begun, counted, begins}
 use Rattle.prem_wcet_laws.proofs.Prelude.{opened, called_parted, landing_place, parted, parted_function, Scene, ◌≡◌, ℕ, ◌+◌, ◌*◌, ◌≤◌, arith, subst, sym, refl, ap, ◌∙◌, true, false, Bool}
@@ -165,7 +165,7 @@ module _ (e : Scene) (calls : ℕ → ℕ) (known : (f : ℕ) → called_least e
         omega (arith, all, some, h)
 
     -- a statement that may have a marked call in it
-    either_way : (b : Bool) (n : ℕ) (first : Steps) (cut_edge edge last : Edge) (whole one rest behind_ : Pieces) (x y : Count) →
+    either_way : (b : Bool) (n : ℕ) (first : Steps) (cut_edge edge last : Edge) (whole one rest behind_ : Pieces) (x y : PathCount) →
         whole ≡ followed one rest → code n first ≡ followed one behind_ → W cut_edge.pieces + x.total ≤ W whole + W last.pieces →
         W behind_ + W edge.pieces + y.total ≤ W rest + W last.pieces → W (code n (by_cut b Done first)) + W (by_cut b cut_edge edge).pieces + (0 + (by_cut b x y).total) ≤ W whole + W last.pieces
     either_way true n first cut_edge edge last whole one rest behind_ x y is starts cut quiet_ = omega (arith, cut)

@@ -2,7 +2,7 @@
 use Rattle.prem_wcet_laws.proofs.Prelude.{Pieces, no_pieces, straight, either, repeat, call_to, followed, branch_of, skip_words, size_of, Test, chained_assoc, none_taken, within_same}
 use Rattle.prem_wcet_laws.proofs.Prelude.{within_then, chained_within, job_weight, Sums, taking, chained, turned, summed, IsWithin, among, counters_in, locals_of, frame_of, store_slot}
 use Rattle.prem_wcet_laws.proofs.Prelude.{bound_test, step_code, count_code, argument_code, target_code, steps_code, opening, closing, result_code, function_code, only, nonzero, callees_in}
-use Rattle.prem_wcet_laws.proofs.Prelude.{Term, Steps, Done, SetLocal, SetScalar, SetElement, Output, Input, If, For, While, Call, Routine, Count, own, own_jump, own_turns, own_choice}
+use Rattle.prem_wcet_laws.proofs.Prelude.{Term, Steps, Done, SetLocal, SetScalar, SetElement, Output, Input, If, For, While, Call, Routine, PathCount, own, own_jump, own_turns, own_choice}
 use Rattle.prem_wcet_laws.proofs.Prelude.{term_of, bound_code, first_code, counter_code, turn_of, taken_place, other_place, body_place, behind, called_least, single, apart, least, declared}
 use Rattle.prem_wcet_laws.proofs.Prelude.{body_at, own_before, own_behind, least_function, cuts, has_cut, front, by_cut, Edge, no_edge, entry, leaving, passing, landing, next_edge}
 use Rattle.prem_wcet_laws.proofs.Prelude.{passage_apart, Begun, counted, begins, opened, called_parted, landing_place, parted, parted_function, Scene, ◌≡◌, ℕ, ◌+◌, ◌*◌, ◌≤◌, min, arith}
@@ -339,7 +339,7 @@ module _ (e : Scene) (sums : ℕ → Sums) (quiet_known : (f : ℕ) → cuts e f
         (chained_within (S one) _ (S one) _ (within_same (S one)) h)))
 
     -- a statement that may have a marked call in it
-    either_way : (b : Bool) (n : ℕ) (first : Steps) (cut_edge edge last : Edge) (whole one rest behind_ : Pieces) (x y : Count) →
+    either_way : (b : Bool) (n : ℕ) (first : Steps) (cut_edge edge last : Edge) (whole one rest behind_ : Pieces) (x y : PathCount) →
         whole ≡ followed one rest → code n first ≡ followed one behind_ → IsWithin (chained (S cut_edge.pieces) x.sums) (chained (S whole) (S last.pieces)) →
         IsWithin (chained (S behind_) (chained (S edge.pieces) y.sums)) (chained (S rest) (S last.pieces)) →
         IsWithin (chained (S (code n (by_cut b Done first))) (chained (S (by_cut b cut_edge edge).pieces) (chained (taking 0) (by_cut b x y).sums))) (chained (S whole) (S last.pieces))

@@ -3,7 +3,7 @@ use Rattle.prem_wcet_laws.specs.Prelude.{Pieces, Setting, Calls, Ending, Falls, 
 use Rattle.prem_wcet_laws.specs.Prelude.{PmMem, line_cost, job_weight, Path, Takes, Cuts, sums_of_path, Plant, IsAmong, ◌≡◌, ◌≤◌, ℕ, ℤ, pos, ◌+◌, ◌*◌, ◌/◌, List, [], ◌∷◌, ◌++◌, length}
 use Rattle.prem_wcet_laws.specs.Prelude.{Option, None, Some}
 use Rattle.prem_isa.specs.declared.effect.Access.{Access}
-use Rattle.prem_wcet_laws.specs.Counts.{Count, IsNoMore}
+use Rattle.prem_wcet_laws.specs.Counts.{PathCount, IsNoMore}
 use Rattle.prem_wcet_laws.specs.Scopes.{is_roomy, roomy_lines, crowd_cost}
 use Rattle.prem_wcet_laws.specs.Weights.{PlaceWeight, weighted_from}
 
@@ -100,7 +100,7 @@ path_of p (alone d rest) = Takes (lone_charge p d) ∷ path_of p rest
 path_of p (together lines steps rest) = Takes (scope_charge p lines steps) ∷ path_of p rest
 path_of p (section steps weight rest) = Takes (job_weight p PmMem) ∷ Cuts ∷ Takes (job_weight p (Jalr 0 4 (pos 0))) ∷ path_of p rest
 
-abbrev pub count_of : Plant → Division → Count
+abbrev pub count_of : Plant → Division → PathCount
 count_of p v = record { total = charge_of p v; sums = sums_of_path (path_of p v) }
 
 -- each scope keeps to its collection, and there is no marked call
@@ -133,14 +133,14 @@ IsCourse Marked line (alone d rest) = IsCourse Marked line rest
 IsCourse Marked line (together lines steps rest) = AllSteps (KeepsTo line lines) steps × IsCourse Marked line rest
 IsCourse Marked line (section steps weight rest) = Marked steps weight × IsCourse Marked line rest
 
-pub record Courses (p : Plant) (Marked : List Did → ℕ → Type 0) (most : Count) (steps : List Did) : Type 0 where
+pub record Courses (p : Plant) (Marked : List Did → ℕ → Type 0) (most : PathCount) (steps : List Did) : Type 0 where
   pub division : Division
   pub keeps : IsCourse Marked p.line division
   pub steps_are : steps ≡ steps_of division
   pub loose : AreLoose division
   pub counted : IsNoMore (count_of p division) most
 
-abbrev pub RunCourses : Plant → (List Did → ℕ → Type 0) → Count → Ending → Type 0
+abbrev pub RunCourses : Plant → (List Did → ℕ → Type 0) → PathCount → Ending → Type 0
 RunCourses p Marked most (Falls t trace) = Courses p Marked most trace
 RunCourses p Marked most (Returns back t trace) = Courses p Marked most trace
 RunCourses p Marked most Stuck = Unit {0}

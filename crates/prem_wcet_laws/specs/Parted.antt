@@ -3,7 +3,7 @@ use Rattle.prem_wcet_laws.specs.Prelude.{Pieces, no_pieces, straight, followed, 
 use Rattle.prem_wcet_laws.specs.Prelude.{step_code, count_code, argument_code, target_code, steps_code, opening, closing, result_code, only, nonzero, Extent, callees_in, Term, Steps, Done}
 use Rattle.prem_wcet_laws.specs.Prelude.{SetLocal, SetScalar, SetElement, Output, Input, If, For, While, Call, Routine, list_any, ℕ, ◌+◌, ◌-◌, ◌*◌, min, Bool, true, false, ◌||◌, Option}
 use Rattle.prem_wcet_laws.specs.Prelude.{if◌then◌else◌, List, [], ◌∷◌, ◌++◌, length}
-use Rattle.prem_wcet_laws.specs.Counts.{Count, quiet, then_count, either_count, turned_count, marked_count}
+use Rattle.prem_wcet_laws.specs.Counts.{PathCount, quiet, then_count, either_count, turned_count, marked_count}
 use Rattle.prem_wcet_laws.specs.Least.{own, own_jump, term_of, bound_code, first_code, counter_code, turn_of, taken_place, other_place, body_place, behind, least, declared}
 use Rattle.prem_wcet_laws.specs.Scopes.{Span, Scene, fact_of, code_ranges, data_ranges, charge_with, globals_in, globals_in_terms, globals_in_result}
 
@@ -134,16 +134,16 @@ opened e counted last n steps = 0
 opened e (begins at edge) last n steps = passage e n at edge (front e steps) (next_edge e last steps)
 
 -- what a call counts in which a marked one is, or which is one
-abbrev pub called_parted : Scene → ℕ → Count
+abbrev pub called_parted : Scene → ℕ → PathCount
 called_parted e f = if e.marked f then marked_count e.plant e.plans (e.stub f) else (fact_of e f).parted
 
 -- a choice and a loop, with what their parts count
-abbrev pub choice_count : Scene → Test → (other_code : Pieces) → (taken other : Count) → Count
+abbrev pub choice_count : Scene → Test → (other_code : Pieces) → (taken other : PathCount) → PathCount
 choice_count e test other_code taken other =
     then_count (quiet (job_weight e.plant (branch_of test)))
     (either_count (then_count taken (quiet (skip_words other_code * own_jump e))) (then_count (quiet (own_jump e)) other))
 
-abbrev pub turn_count : Scene → (turns : ℕ) → Test → (head : ℕ) → (body : Count) → Count
+abbrev pub turn_count : Scene → (turns : ℕ) → Test → (head : ℕ) → (body : PathCount) → PathCount
 turn_count e turns test head body =
     turned_count turns (then_count (quiet (head + job_weight e.plant (branch_of test))) (then_count body (quiet (own_jump e)))) (quiet (head + job_weight e.plant (branch_of test) + own_jump e))
 
@@ -152,7 +152,7 @@ abbrev pub landing_place : Scene → (at f : ℕ) → List Term → ℕ
 landing_place e at f arguments = at + size_of (argument_code e.parts.target e.parts.global (e.parts.frame f) 0 arguments) + 4
 
 -- statements at a place, behind which such an edge stands
-abbrev pub parted : Scene → Begun → (last : Edge) → (n at : ℕ) → Steps → Count
+abbrev pub parted : Scene → Begun → (last : Edge) → (n at : ℕ) → Steps → PathCount
 parted e b last n at Done = quiet (opened e b last n Done)
 parted e b last n at (SetLocal pl k value rest) =
     then_count (quiet (opened e b last n (SetLocal pl k value rest))) (parted e counted last n (behind e n at (SetLocal pl k value Done)) rest)
@@ -202,5 +202,5 @@ parted e b last n at (Call pl target f arguments rest) =
     (parted e counted last n (behind e n at (Call pl target f arguments Done)) rest))
 
 -- the code of a function at its place
-abbrev pub parted_function : Scene → Routine → (at : ℕ) → Count
+abbrev pub parted_function : Scene → Routine → (at : ℕ) → PathCount
 parted_function e f at = parted e (begins at (entry e f)) (leaving e f) (locals_of f) (at + size_of (entry e f).pieces) f.body

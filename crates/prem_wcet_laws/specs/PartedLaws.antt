@@ -3,7 +3,7 @@ use Rattle.prem_wcet_laws.specs.Prelude.{size_of, Setting, Calls, Ending, run, G
 use Rattle.prem_wcet_laws.specs.Prelude.{TaskState, Did, Phase, counters_in, slots_of, frame_of, Parts, steps_code, function_code, Plant, Outcome, Access, Steps, Routine, Limits}
 use Rattle.prem_wcet_laws.specs.Prelude.{calls_below, ProgramState, ◌≡◌, ◌<◌, ◌≤◌, ℕ, ◌+◌, ◌-◌, ◌%◌, ◌^◌, Bool, true, false, List, length, Ok}
 use Rattle.prem_syntax.specs.Statements.{run as run_source}
-use Rattle.prem_wcet_laws.specs.Counts.{Count}
+use Rattle.prem_wcet_laws.specs.Counts.{PathCount}
 use Rattle.prem_wcet_laws.specs.Divided.{RunCourses}
 use Rattle.prem_wcet_laws.specs.LeastLaws.{Works}
 use Rattle.prem_wcet_laws.specs.Parted.{cuts, bottom_of, no_edge, begins, called_parted, parted, parted_function}
@@ -11,7 +11,7 @@ use Rattle.prem_wcet_laws.specs.ScopeLaws.{Stands}
 use Rattle.prem_wcet_laws.specs.Scopes.{Scene}
 
 -- calls from a frame run in scopes and marked calls that are charged at most so much
-pub record CallCourses (p : Plant) (Marked : List Did → ℕ → Type 0) (most : Count) (s : Setting) (gs : Globals) (k : Stack) (phase : Phase)
+pub record CallCourses (p : Plant) (Marked : List Did → ℕ → Type 0) (most : PathCount) (s : Setting) (gs : Globals) (k : Stack) (phase : Phase)
     (o : TaskState → Ending) (link frame depth params : ℕ) (call : List ℕ → ProgramState → Outcome (ℕ × ProgramState)) : Type 0 where
   pub courses : (count : ℕ) (st : ProgramState) (words : List ℕ) (t : TaskState) (back word : ℕ) (after : ProgramState) →
       Matches s gs k phase count st t → t.registers link ≡ back → back % 4 ≡ 0 → back < 2 ^ 32 → k.low + depth ≤ k.sp → length words ≡ params → ArgumentsStand t.view (k.sp - frame) words →

@@ -3,7 +3,7 @@ use Rattle.prem_wcet_laws.specs.Prelude.{Pieces, no_pieces, size_of, cost_of, Lo
 use Rattle.prem_wcet_laws.specs.Prelude.{function_code, Extent, Plant, callees_in, Term, Constant, Local, Scalar, Element, Unary, Binary, AndAlso, OrElse, Steps, Done, SetLocal, SetScalar}
 use Rattle.prem_wcet_laws.specs.Prelude.{SetElement, Output, Input, If, For, While, Call, Routine, list_all, flat_map, ℕ, ◌+◌, ◌*◌, ◌/◌, ◌%◌, nat_le, Bool, true, Option, None, Some}
 use Rattle.prem_wcet_laws.specs.Prelude.{if◌then◌else◌, List, [], ◌∷◌, ◌++◌, length, map, filter, slice_index_or}
-use Rattle.prem_wcet_laws.specs.Counts.{Count, no_count}
+use Rattle.prem_wcet_laws.specs.Counts.{PathCount, no_count}
 use Rattle.prem_wcet_laws.specs.Weights.{PlaceWeight, weighted_from}
 
 -- ---- lines of a collection
@@ -70,7 +70,7 @@ pub record Fact : Type 0 where
   pub touched : List Extent
   pub cuts : Bool
   pub least : ℕ  -- where no marked call is in it
-  pub parted : Count  -- where one is
+  pub parted : PathCount  -- where one is
 
 -- a function that isn't known: it can't be called
 abbrev pub no_fact : Fact

@@ -1,6 +1,6 @@
 -- The first rule that functions break, found from the last to the first, is the one that is defined.
 use Rattle.prem_annotate.proofs.Prelude.{plain_routine, outlook_of, outlook, outlook_with, row_of, with_arguments, with_slots, empty_row, routine_with, unwatched_site, breaches_among}
-use Rattle.prem_annotate.proofs.Prelude.{first_in, passed, Slot as SlotTree, new_ranges_hold, first_other, with_parameters, ranged_routine, ranged_routines, calls_of_all, items_of, SameSite}
+use Rattle.prem_annotate.proofs.Prelude.{first_in, passed, ParameterRange as SlotTree, new_ranges_hold, first_other, with_parameters, ranged_routine, ranged_routines, calls_of_all, items_of, SameSite}
 use Rattle.prem_annotate.proofs.Prelude.{both_same, in_routine-alike, Site, in_routine, RangeBreach, first, first_of, AlikeRoutines, no_routines, next_routine, ProgramHasWords, IsWellFormed}
 use Rattle.prem_annotate.proofs.Prelude.{Routine, unlimited, Parameter, GlobalVariable, ProgramText, IsResolved, resolved_of, Resolved as ResolvedTree, ◌≡◌, ℕ, zero, suc, ◌+◌, ◌<◌, ◌≤◌}
 use Rattle.prem_annotate.proofs.Prelude.{drop, subst, List, [], ◌∷◌, length, map, get_or, refl, ap, sym, ◌∙◌, arith, Option, None, Some, drop_all, length-map, Global, flat_map, slice_get}
@@ -9,7 +9,7 @@ use Rattle.prem_annotate.proofs.Noted.{plain_routines}
 use Rattle.prem_annotate.proofs.Outlooks.{some_is, looked_before, mapped_drop, mapped_get}
 use Rattle.prem_annotate.proofs.Slots.{slots_in, slots_of, no_rows, row_at, slots_range}
 use Rattle.prem_annotate.proofs.Turned.{all_ranged_same}
-use Rattle.prem_annotate.specs.Ranges.Slots.{Slot}
+use Rattle.prem_annotate.specs.Ranges.Slots.{ParameterRange}
 use Rattle.prem_annotate.specs.declared.ranges.outlook.Outlook.{Outlook as OutlookTree}
 use Rattle.prem_ranges.proofs.FirstBreach.{first_of_append}
 use Rattle.prem_syntax.specs.Resolved.{Resolved}
@@ -18,12 +18,12 @@ use Rattle.prem_tree.specs.declared.resolve.resolved.Routine.{Routine as Routine
 -- ---- from the last function to the first
 
 -- the functions from number n on are looked at
-pub record Finding (gs : List GlobalVariable) (rs fs : List Routine) (n : ℕ) (rows : List (List Slot)) (found : Option RangeBreach) : Type 0 where
+pub record Finding (gs : List GlobalVariable) (rs fs : List Routine) (n : ℕ) (rows : List (List ParameterRange)) (found : Option RangeBreach) : Type 0 where
   pub rows_are : rows ≡ slots_of (passed (calls_of_all (ranged_routines n (drop n fs)))) 0 fs
   pub found_is : found ≡ first_of (breaches_among gs rs n (drop n fs))
 
 -- a function with its row has its ranges
-with_row : (fs : List Routine) (m : ℕ) (f : Routine) (rows : List (List Slot)) (row : List Slot) → slice_get fs m ≡ Some f →
+with_row : (fs : List Routine) (m : ℕ) (f : Routine) (rows : List (List ParameterRange)) (row : List ParameterRange) → slice_get fs m ≡ Some f →
     rows ≡ slots_of (passed (calls_of_all (ranged_routines (m + 1) (drop (m + 1) fs)))) 0 fs →
     slice_get rows m ≡ Some row → routine_with row f ≡ ranged_routine (calls_of_all (ranged_routines (m + 1) (drop (m + 1) fs))) m f
 with_row fs m f rows row there are row_is =
@@ -32,9 +32,9 @@ with_row fs m f rows row there are row_is =
     let own : row ≡ slots_in (passed calls) m 0 f.text.params =
     some_is row (slots_in (passed calls) m 0 f.text.params)
     (sym row_is ∙ ap (λ l. slice_get l m) are ∙ row_at (passed calls) 0 m fs f there ∙ ap (λ k. Some (slots_in (passed calls) k 0 f.text.params)) zero_m) in
-    ap (λ (r : List Slot). with_parameters (with_slots r f.text.params) f) own ∙ ap (λ (ps : List Parameter). with_parameters ps f) (slots_range calls m 0 f.text.params)
+    ap (λ (r : List ParameterRange). with_parameters (with_slots r f.text.params) f) own ∙ ap (λ (ps : List Parameter). with_parameters ps f) (slots_range calls m 0 f.text.params)
 
-found_before : (gs : List GlobalVariable) (rs fs : List Routine) (m : ℕ) (f : Routine) (rows rows' : List (List Slot)) (row : List Slot) (before own found : Option RangeBreach) →
+found_before : (gs : List GlobalVariable) (rs fs : List Routine) (m : ℕ) (f : Routine) (rows rows' : List (List ParameterRange)) (row : List ParameterRange) (before own found : Option RangeBreach) →
     drop m fs ≡ f ∷ drop (m + 1) fs → slice_get fs m ≡ Some f → Finding gs rs fs (m + 1) rows before → slice_get rows m ≡ Some row → rows' ≡ with_arguments (outlook_with row f).sight.arguments rows →
     own ≡ first_of (in_routine (unwatched_site gs rs) (routine_with row f)) → found ≡ first own before → Finding gs rs fs m rows' found
 found_before gs rs fs m f rows rows' row before own found all there behind row_is new_rows own_is found_is =

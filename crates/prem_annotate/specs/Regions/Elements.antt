@@ -1,5 +1,5 @@
 -- The elements of globals that functions access: for each global the least range around them.
-use Rattle.prem_annotate.specs.Prelude.{span_of, join_with, Touch, is_in, Span, option_map, ℕ, ◌+◌, Bool, true, false, List, [], ◌∷◌, map, Option, Some}
+use Rattle.prem_annotate.specs.Prelude.{span_of, join_with, GlobalAccess, is_in, Span, option_map, ℕ, ◌+◌, Bool, true, false, List, [], ◌∷◌, map, Option, Some}
 use Rattle.prem_analysis.specs.declared.ranging.range.Range.{Range}
 use Rattle.prem_annotate.specs.Ranges.Outlook.{Outlook}
 use Rattle.prem_annotate.specs.Ranges.Slots.{at_number}
@@ -13,14 +13,14 @@ widened r s = Some (join_with r s)
 
 -- ---- more accesses
 
-abbrev pub with_touch : Touch → List (Option Span) → List (Option Span)
+abbrev pub with_touch : GlobalAccess → List (Option Span) → List (Option Span)
 with_touch t all = at_number t.global (widened t.elements) all
 
-abbrev pub with_touches : List Touch → List (Option Span) → List (Option Span)
+abbrev pub with_touches : List GlobalAccess → List (Option Span) → List (Option Span)
 with_touches [] all = all
 with_touches (t ∷ ts) all = with_touch t (with_touches ts all)
 
-abbrev pub with_touches_if : Bool → List Touch → List (Option Span) → List (Option Span)
+abbrev pub with_touches_if : Bool → List GlobalAccess → List (Option Span) → List (Option Span)
 with_touches_if true ts all = with_touches ts all
 with_touches_if false ts all = all
 

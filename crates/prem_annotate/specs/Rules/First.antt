@@ -1,12 +1,12 @@
 -- The first rule on ranges but for regions that functions with their new ranges break.
 use Rattle.prem_annotate.specs.Prelude.{with_parameters, ranged_routines, Routine, Resolved, GlobalVariable, ℕ, ⊤, ◌≤ℤ◌, List, [], Option, None, Some}
-use Rattle.prem_annotate.specs.Ranges.Slots.{Slot, with_slots}
+use Rattle.prem_annotate.specs.Ranges.Slots.{ParameterRange, with_slots}
 use Rattle.prem_ranges.specs.RangeBreaches.{Site, in_routine}
 use Rattle.prem_ranges.specs.RangeRules.{RangeRule, RegionOutside, ArgRange, RangeBreach, first_of}
 use Rattle.std.specs.List.{flat_map}
 
 -- a function whose parameters are given so much
-abbrev pub routine_with : List Slot → Routine → Routine
+abbrev pub routine_with : List ParameterRange → Routine → Routine
 routine_with row f = with_parameters (with_slots row f.text.params) f
 
 -- where no marked function watches

@@ -1,10 +1,10 @@
 -- What a walk has seen, as it lies in memory: accesses of globals, and arguments of calls.
-use Rattle.prem_annotate.specs.Prelude.{span_of, Touch, touch, Span, ℕ, List, ◌++◌, map}
+use Rattle.prem_annotate.specs.Prelude.{span_of, GlobalAccess, touch, Span, ℕ, List, ◌++◌, map}
 use Rattle.prem_annotate.specs.declared.seeing.sight.Argument.{Argument as ArgumentTree}
 use Rattle.prem_annotate.specs.declared.seeing.sight.Sight.{Sight as SightTree}
-use Rattle.prem_annotate.specs.declared.seeing.sight.Touch.{Touch as TouchTree}
+use Rattle.prem_annotate.specs.declared.seeing.sight.GlobalAccess.{GlobalAccess as TouchTree}
 
-abbrev pub touch_of : TouchTree → Touch
+abbrev pub touch_of : TouchTree → GlobalAccess
 touch_of t = touch t.at t.global (span_of t.elements)
 
 -- an argument for a parameter of a function, by their numbers, and its range before it is converted
@@ -20,17 +20,17 @@ abbrev pub argument_of : ArgumentTree → Argument
 argument_of a = argument a.callee a.parameter (span_of a.range)
 
 pub record Sight : Type 0 where
-  pub touches : List Touch
+  pub touches : List GlobalAccess
   pub arguments : List Argument
 
 abbrev pub sight_of : SightTree → Sight
 sight_of s = record { touches = map touch_of s.touches.items; arguments = map argument_of s.arguments.items }
 
 -- accesses, and arguments, are put behind what is seen
-abbrev pub touched : List Touch → Sight → Sight
+abbrev pub touched : List GlobalAccess → Sight → Sight
 touched ts s = record { touches = s.touches ++ ts; arguments = s.arguments }
 
-abbrev pub both : List Touch → List Argument → Sight → Sight
+abbrev pub both : List GlobalAccess → List Argument → Sight → Sight
 both ts as_ s = record { touches = s.touches ++ ts; arguments = s.arguments ++ as_ }
 
 abbrev pub passed_on : List Argument → Sight → Sight

@@ -1,5 +1,5 @@
 -- What a walk sees of steps and of functions.
-use Rattle.prem_annotate.specs.Prelude.{Touch, touched_by_locals, touched_in, touched_by_result, KnownCall, calls_in, Term, Steps, Routine, ℕ, ◌+◌, List, [], ◌∷◌, ◌++◌}
+use Rattle.prem_annotate.specs.Prelude.{GlobalAccess, touched_by_locals, touched_in, touched_by_result, KnownCall, calls_in, Term, Steps, Routine, ℕ, ◌+◌, List, [], ◌∷◌, ◌++◌}
 use Rattle.prem_annotate.specs.Seeing.Sight.{Argument, argument, Sight}
 use Rattle.prem_ranges.specs.After.{after, declared}
 use Rattle.prem_ranges.specs.Environment.{Environment}
@@ -23,10 +23,10 @@ abbrev pub behind : Environment → Steps → Sight → Sight
 behind env steps s = record { touches = s.touches ++ touched_in env steps; arguments = s.arguments ++ passed (calls_in env steps) }
 
 -- behind steps without steps in them
-abbrev pub looked : List Touch → Sight → Sight
+abbrev pub looked : List GlobalAccess → Sight → Sight
 looked ts s = record { touches = s.touches ++ (ts ++ []); arguments = s.arguments ++ [] }
 
-abbrev pub called : List Touch → List Argument → Sight → Sight
+abbrev pub called : List GlobalAccess → List Argument → Sight → Sight
 called ts as_ s = record { touches = s.touches ++ (ts ++ []); arguments = s.arguments ++ (as_ ++ []) }
 
 -- ---- what is seen of a function

@@ -12,7 +12,7 @@ ghost use Rattle.prem_annotating.specs.Inferred.{if_narrower};
 ghost use Rattle.prem_annotate.specs.Ranges.Slots.{slot_of, with_slot, with_slots};
 ghost use Rattle.prem_annotate.specs.Ranges.Outlook.{ranges_of, outlook_of, outlook_with};
 
-use crate::ranges::slots::Slot;
+use crate::ranges::slots::ParameterRange;
 use crate::seeing::{Sight, see_routine};
 use prem_analysis::ranging::{Known, Range, whole_range};
 use prem_syntax::Param;
@@ -53,7 +53,7 @@ fn narrowed(k: Kind, given: Option<Range>) -> Option<(i64, i64)>
 }
 
 /// The RANGE that stands, or else what calls give.
-fn range_of_parameter(p: &Param, s: Slot) -> Option<(i64, i64)>
+fn range_of_parameter(p: &Param, s: ParameterRange) -> Option<(i64, i64)>
     ensures { result ≡ (with_slot (slot_of s) (parameter_of p.now)).range }
 {
     match p.range {
@@ -72,7 +72,7 @@ fn known_given(k: Kind, given: Option<Range>) -> Range
     }
 }
 
-fn known(p: &Param, s: Slot) -> Known
+fn known(p: &Param, s: ParameterRange) -> Known
     requires { IsRange (promoted p.now.ty) (stated_or_whole (promoted p.now.ty) p.now.range) }
     ensures { known_of result ≡ known_parameter (with_slot (slot_of s) (parameter_of p.now)) }
 {
@@ -84,7 +84,7 @@ fn known(p: &Param, s: Slot) -> Known
     Known { kind, range }
 }
 
-fn add_known(env: &mut Vec<Known>, p: &Param, s: Slot) -> Result<(), AllocError>
+fn add_known(env: &mut Vec<Known>, p: &Param, s: ParameterRange) -> Result<(), AllocError>
     requires { IsRange (promoted p.now.ty) (stated_or_whole (promoted p.now.ty) p.now.range) }
     ensures { OnOk result (env_of env.new.items ≡ env_of env.old.items ++ known_parameter (with_slot (slot_of s) (parameter_of p.now)) ∷ []) }
 {
@@ -93,7 +93,11 @@ fn add_known(env: &mut Vec<Known>, p: &Param, s: Slot) -> Result<(), AllocError>
 }
 
 /// What is known of parameters.
-pub fn known_parameters(alloc: Global, row: &[Slot], ps: &[Param]) -> Result<Vec<Known>, AllocError>
+pub fn known_parameters(
+    alloc: Global,
+    row: &[ParameterRange],
+    ps: &[Param],
+) -> Result<Vec<Known>, AllocError>
     requires { Ranged (map known_parameter (map parameter_of ps.now)) }
     ensures { IfOk result (λ env. env_of env.items ≡ map known_parameter (with_slots (map slot_of row.now) (map parameter_of ps.now))) }
 {
@@ -107,7 +111,11 @@ pub fn known_parameters(alloc: Global, row: &[Slot], ps: &[Param]) -> Result<Vec
     Ok(env)
 }
 
-fn add_range(all: &mut Vec<Option<(i64, i64)>>, p: &Param, s: Slot) -> Result<(), AllocError>
+fn add_range(
+    all: &mut Vec<Option<(i64, i64)>>,
+    p: &Param,
+    s: ParameterRange,
+) -> Result<(), AllocError>
     ensures { OnOk result (all.new.items ≡ all.old.items ++ (with_slot (slot_of s) (parameter_of p.now)).range ∷ []) }
 {
     all.push(range_of_parameter(p, s))?;
@@ -115,7 +123,11 @@ fn add_range(all: &mut Vec<Option<(i64, i64)>>, p: &Param, s: Slot) -> Result<()
 }
 
 /// The ranges of parameters.
-fn ranges(alloc: Global, row: &[Slot], ps: &[Param]) -> Result<Vec<Option<(i64, i64)>>, AllocError>
+fn ranges(
+    alloc: Global,
+    row: &[ParameterRange],
+    ps: &[Param],
+) -> Result<Vec<Option<(i64, i64)>>, AllocError>
     ensures { IfOk result (λ all. all.items ≡ ranges_of (with_slots (map slot_of row.now) (map parameter_of ps.now))) }
 {
     let mut all = Vec::new(alloc);
@@ -129,7 +141,7 @@ fn ranges(alloc: Global, row: &[Slot], ps: &[Param]) -> Result<Vec<Option<(i64, 
 }
 
 /// What is found of a function whose parameters are given so much.
-pub fn regard(alloc: Global, row: &[Slot], f: &Routine) -> Result<Outlook, AllocError>
+pub fn regard(alloc: Global, row: &[ParameterRange], f: &Routine) -> Result<Outlook, AllocError>
     requires { Ranged (map known_parameter (function_of f.now.text.now).params) }
     ensures { IfOk result (λ o. outlook_of o ≡ outlook_with (map slot_of row.now) (plain_routine f.now)) }
 {

@@ -16,13 +16,13 @@ use std::alloc::{AllocError, Global};
 
 /// A parameter's kind, and the least range around what calls give it, if there is any.
 #[derive(Clone, Copy)]
-pub struct Slot {
+pub struct ParameterRange {
     pub kind: Kind,
     pub given: Option<Range>,
 }
 
 /// The least range around two.
-pub fn join(a: Range, b: Range) -> Range
+pub fn least_around(a: Range, b: Range) -> Range
     ensures { span_of result ≡ join (span_of a) (span_of b) }
 {
     Range {
@@ -32,37 +32,37 @@ pub fn join(a: Range, b: Range) -> Range
 }
 
 /// A slot that one more call gives a value of a range.
-fn given(s: Slot, range: Range) -> Slot
+fn widened_by(s: ParameterRange, range: Range) -> ParameterRange
     ensures { slot_of result ≡ given (span_of range) (slot_of s) }
 {
     let own = convert(s.kind, range);
     let around = match s.given {
-        Some(other) => join(own, other),
+        Some(other) => least_around(own, other),
         None => own,
     };
-    Slot {
+    ParameterRange {
         kind: s.kind,
         given: Some(around),
     }
 }
 
 /// One more call gives a parameter a value of a range.
-fn add_to_slots(row: &mut [Slot], k: usize, range: Range)
+fn add_to_slots(row: &mut [ParameterRange], k: usize, range: Range)
     ensures { map slot_of row.new ≡ at_number k (given (span_of range)) (map slot_of row.old) }
 {
     if k < row.len() {
-        row[k] = given(row[k], range);
+        row[k] = widened_by(row[k], range);
     }
 }
 
-fn add_to_row(row: &mut Vec<Slot>, k: usize, range: Range)
+fn add_to_row(row: &mut Vec<ParameterRange>, k: usize, range: Range)
     ensures { row_of row.new ≡ at_number k (given (span_of range)) (row_of row.old) }
 {
     add_to_slots(row, k, range);
 }
 
 /// One more argument.
-fn add(rows: &mut [Vec<Slot>], a: Argument)
+fn add(rows: &mut [Vec<ParameterRange>], a: Argument)
     ensures { map row_of rows.new ≡ with_argument (argument_of a) (map row_of rows.old) }
 {
     if a.callee < rows.len() {
@@ -71,7 +71,7 @@ fn add(rows: &mut [Vec<Slot>], a: Argument)
 }
 
 /// More arguments, from the last to the first.
-fn add_to_rows(rows: &mut [Vec<Slot>], arguments: &[Argument])
+fn add_to_rows(rows: &mut [Vec<ParameterRange>], arguments: &[Argument])
     ensures { map row_of rows.new ≡ with_arguments (map argument_of arguments.now) (map row_of rows.old) }
 {
     let mut n = arguments.len();
@@ -82,23 +82,23 @@ fn add_to_rows(rows: &mut [Vec<Slot>], arguments: &[Argument])
 }
 
 /// Calls give the parameters of functions more.
-pub fn add_all(rows: &mut Vec<Vec<Slot>>, arguments: &[Argument])
+pub fn add_all(rows: &mut Vec<Vec<ParameterRange>>, arguments: &[Argument])
     ensures { map row_of rows.new.items ≡ with_arguments (map argument_of arguments.now) (map row_of rows.old.items) }
 {
     add_to_rows(rows, arguments);
 }
 
 /// The slot of a parameter that no call gives anything.
-fn empty_slot(p: &Param) -> Slot
+fn empty_slot(p: &Param) -> ParameterRange
     ensures { slot_of result ≡ empty_slot (parameter_of p.now) }
 {
-    Slot {
+    ParameterRange {
         kind: promoted(p.ty),
         given: None,
     }
 }
 
-fn empty_row(alloc: Global, ps: &[Param]) -> Result<Vec<Slot>, AllocError>
+fn empty_row(alloc: Global, ps: &[Param]) -> Result<Vec<ParameterRange>, AllocError>
     ensures { IfOk result (λ row. row_of row ≡ map empty_slot (map parameter_of ps.now)) }
 {
     let mut row = Vec::new(alloc);
@@ -109,7 +109,10 @@ fn empty_row(alloc: Global, ps: &[Param]) -> Result<Vec<Slot>, AllocError>
 }
 
 /// The parameters of functions that no call gives anything.
-pub fn empty_rows(alloc: Global, routines: &[Routine]) -> Result<Vec<Vec<Slot>>, AllocError>
+pub fn empty_rows(
+    alloc: Global,
+    routines: &[Routine],
+) -> Result<Vec<Vec<ParameterRange>>, AllocError>
     ensures { IfOk result (λ rows. map row_of rows.items ≡ map empty_row (map plain_routine routines.now)) }
 {
     let mut rows = Vec::new(alloc);

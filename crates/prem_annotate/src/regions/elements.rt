@@ -10,8 +10,8 @@ ghost use Rattle.prem_annotate.specs.Ranges.Outlook.{outlook_of};
 ghost use Rattle.prem_annotate.specs.Regions.Elements.{elements_of, with_touch, with_touches, with_touches_if, with_members};
 ghost use Rattle.prem_annotate.specs.Regions.Found.{nothing, no_elements};
 
-use crate::ranges::{Outlook, join};
-use crate::seeing::Touch;
+use crate::ranges::{Outlook, least_around};
+use crate::seeing::GlobalAccess;
 use prem_analysis::ranging::Range;
 use prem_syntax::Global;
 use std::alloc::{AllocError, Global as Allocator};
@@ -21,13 +21,13 @@ fn widened(r: Range, other: Option<Range>) -> Range
     ensures { span_of result ≡ join_with (span_of r) (option_map span_of other) }
 {
     match other {
-        Some(s) => join(r, s),
+        Some(s) => least_around(r, s),
         None => r,
     }
 }
 
 /// One more access.
-fn add_touch(all: &mut [Option<Range>], t: Touch)
+fn add_touch(all: &mut [Option<Range>], t: GlobalAccess)
     ensures { elements_of all.new ≡ with_touch (touch_of t) (elements_of all.old) }
 {
     if t.global < all.len() {
@@ -36,7 +36,7 @@ fn add_touch(all: &mut [Option<Range>], t: Touch)
 }
 
 /// More accesses, from the last to the first.
-fn add_touches(all: &mut [Option<Range>], touches: &[Touch])
+fn add_touches(all: &mut [Option<Range>], touches: &[GlobalAccess])
     ensures { elements_of all.new ≡ with_touches (map touch_of touches.now) (elements_of all.old) }
 {
     let mut n = touches.len();
@@ -54,7 +54,7 @@ fn is_in(set: &[bool], n: usize) -> bool
 }
 
 /// The accesses of a function, if it is a member.
-fn add_if(is_member: bool, all: &mut [Option<Range>], touches: &[Touch])
+fn add_if(is_member: bool, all: &mut [Option<Range>], touches: &[GlobalAccess])
     ensures { elements_of all.new ≡ with_touches_if is_member (map touch_of touches.now) (elements_of all.old) }
 {
     if is_member {

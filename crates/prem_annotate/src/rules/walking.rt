@@ -11,7 +11,7 @@ ghost use Rattle.prem_analysis.specs.Functions.{plain_routine};
 ghost use Rattle.prem_annotate.specs.Ranges.Slots.{slot_of};
 ghost use Rattle.prem_annotate.specs.Rules.First.{routine_with};
 
-use crate::ranges::{Slot, known_parameters};
+use crate::ranges::{ParameterRange, known_parameters};
 use prem_analysis::ranging::{Broken, Site};
 use prem_analysis::{Seen, declare_all, see_result, walk};
 use prem_tree::resolve::Routine;
@@ -21,7 +21,7 @@ use std::alloc::{AllocError, Global};
 pub fn in_routine(
     alloc: Global,
     site: &Site,
-    row: &[Slot],
+    row: &[ParameterRange],
     f: &Routine,
 ) -> Result<Option<Broken>, AllocError>
     requires { Ranged (map known_parameter (function_of f.now.text.now).params) }

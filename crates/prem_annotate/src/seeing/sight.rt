@@ -10,7 +10,7 @@ use std::alloc::AllocError;
 
 /// An access of elements of a global, by its number. A scalar is an array of one element.
 #[derive(Clone, Copy)]
-pub struct Touch {
+pub struct GlobalAccess {
     pub at: Place,
     pub global: usize,
     pub elements: Range,
@@ -27,7 +27,7 @@ pub struct Argument {
 /// The accesses and the arguments, in the order of the text.
 #[derive(Drop)]
 pub struct Sight {
-    pub touches: Vec<Touch>,
+    pub touches: Vec<GlobalAccess>,
     pub arguments: Vec<Argument>,
 }
 
@@ -36,7 +36,7 @@ impl Sight {
     pub fn touch(&mut self, at: Place, global: usize, elements: Range) -> Result<(), AllocError>
         ensures { OnOk result (sight_of self.new ≡ touched (touch at global (span_of elements) ∷ []) (sight_of self.old)) }
     {
-        self.touches.push(Touch {
+        self.touches.push(GlobalAccess {
             at,
             global,
             elements,

@@ -1,5 +1,5 @@
 -- The walk over rows of tokens that stay: declarations, ranges and marks.
-use Rattle.prem_annotating.proofs.Prelude.{Order, kept, at_token, is_type, type_or, is_predictable, behind_name, in_range, Spot, Elsewhere, BehindType, BehindName, InMark, InParameters}
+use Rattle.prem_annotating.proofs.Prelude.{Order, kept, at_token, is_type, type_or, is_predictable, behind_name, in_range, TokenPlace, Elsewhere, BehindType, BehindName, InMark, InParameters}
 use Rattle.prem_annotating.proofs.Prelude.{InRange, Text, lexemes_of, IsRow, spelled, TypeForm, void_type, int_type, short_type, signed_char_type, unsigned_type, unsigned_int_type}
 use Rattle.prem_annotating.proofs.Prelude.{unsigned_short_type, unsigned_char_type, type_slots, Declaration, IsDeclaration, declaration_tokens, ConstantPhrase, constant_slots, IsConstant}
 use Rattle.prem_annotating.proofs.Prelude.{PartedConstant, InitialPhrase, no_initial, one_initial, many_initial, ArePartedConstants, IsInitial, constants_tokens, initial_tokens, IsLength}
@@ -17,7 +17,7 @@ use Rattle.prem_text.specs.declared.lexing.token.token.Mark.TheVariants as m
 use Rattle.prem_text.specs.declared.lexing.token.token.Word.TheVariants as w
 
 -- rows one behind another
-pub rows_join : (s s1 s2 : Spot) (xs ys : List Seen) → Stays s (lexemes_of xs) s1 → Stays s1 (lexemes_of ys) s2 → Stays s (lexemes_of (xs ++ ys)) s2
+pub rows_join : (s s1 s2 : TokenPlace) (xs ys : List Seen) → Stays s (lexemes_of xs) s1 → Stays s1 (lexemes_of ys) s2 → Stays s (lexemes_of (xs ++ ys)) s2
 rows_join s s1 s2 xs ys one two = subst (λ l. Stays s l s2) (sym (lexemes_join xs ys)) (stays_join s s1 s2 (lexemes_of xs) (lexemes_of ys) one two)
 
 -- ---- types
@@ -271,7 +271,7 @@ range_word (word _) h = absurd cc
 range_word _ h = absurd cc
 
 -- a token stays at a spot
-pub one_stays : (s s1 : Spot) (x y : Lexeme) → x ≡ y → ((o : Option Order) (b : ℕ) → at_token s o y b ≡ kept b s1) → (o : Option Order) (b : ℕ) → at_token s o x b ≡ kept b s1
+pub one_stays : (s s1 : TokenPlace) (x y : Lexeme) → x ≡ y → ((o : Option Order) (b : ℕ) → at_token s o y b ≡ kept b s1) → (o : Option Order) (b : ℕ) → at_token s o x b ≡ kept b s1
 one_stays s s1 x y e is o b = subst (λ z. at_token s o z b ≡ kept b s1) (sym e) (is o b)
 
 pub begins_stay : (row : List Seen) → IsRow (right_parenthesis ∷ left_brace ∷ []) row → Stays InParameters (lexemes_of row) Elsewhere

@@ -1,6 +1,6 @@
 -- The walk over single tokens that have an order, and over regions that go.
 use Rattle.prem_annotating.proofs.Prelude.{plain, marks_of, Order, leave, put, put_for, Marked, Step, step, gone, is_close, at_token, first_order, walked, mode_of, behind_close, Piece}
-use Rattle.prem_annotating.proofs.Prelude.{between, a_token, text_of, lexemes_in, AreDivided, mark_piece, EndsInToken, Mode, Copying, Dropping, Skipping, Spot, Elsewhere, InMark}
+use Rattle.prem_annotating.proofs.Prelude.{between, a_token, text_of, lexemes_in, AreDivided, mark_piece, EndsInToken, GapMode, Copying, Dropping, Skipping, TokenPlace, Elsewhere, InMark}
 use Rattle.prem_annotating.proofs.Prelude.{AmongRegions, InParameters, Text, is_number_row, literal_row, lexemes_of, IsRow, AreRegions, region_tokens, region_trees, Slot, fits}
 use Rattle.prem_annotating.proofs.Prelude.{left_parenthesis, right_parenthesis, a_name, comma, a_literal, the_region, Lexeme, name, number, word, mark, end_of_text, Seen, is_digit}
 use Rattle.prem_annotating.proofs.Prelude.{is_name_byte, goes_on, every, Spells, as_name, as_literal, Kind, ◌≡◌, ◌⊎◌, inl, inr, ⊎_elim, ℕ, zero, suc, Bool, true, false, List, [], ◌∷◌, ◌++◌}
@@ -13,14 +13,14 @@ use Rattle.prem_text.specs.declared.lexing.token.token.Mark.TheVariants as m
 
 -- ---- a token with an order to leave it
 
-pub leave_goes : (s s1 : Spot) (os : List Order) (bytes : List ℕ) (t : Lexeme) → mode_of s1 ≡ Copying → ((b : ℕ) → at_token s (Some leave) t b ≡ step (b ∷ []) s1 Copying true) →
+pub leave_goes : (s s1 : TokenPlace) (os : List Order) (bytes : List ℕ) (t : Lexeme) → mode_of s1 ≡ Copying → ((b : ℕ) → at_token s (Some leave) t b ≡ step (b ∷ []) s1 Copying true) →
     Goes s (leave ∷ os) (a_token bytes t ∷ []) (a_token bytes t ∷ []) s1 os
 leave_goes s s1 os [] t mode is more h = let none = token_begun [] (text_of more) t h.0 in let parts : [] ≡ none.first ∷ none.more = none.parts in absurd cc
 leave_goes s s1 os (b ∷ bytes) t mode is more h =
     let first : from s (leave ∷ os) (a_token (b ∷ bytes) t ∷ more) ≡ b ∷ walked s1 Copying os (plain bytes ++ marks_of more) =
     ap (λ (x : Step). after_step x (leave ∷ os) (plain bytes ++ marks_of more)) (is b) in
     first ∙ ap (λ (l : List ℕ). b ∷ l) (copies s1 os bytes (marks_of more))
-    ∙ ap (λ (k : Mode). b ∷ bytes ++ walked s1 k os (marks_of more)) (sym mode) ∙ ap (λ (l : List ℕ). l ++ from s1 os more) (sym (append-nil (b ∷ bytes)))
+    ∙ ap (λ (k : GapMode). b ∷ bytes ++ walked s1 k os (marks_of more)) (sym mode) ∙ ap (λ (l : List ℕ). l ++ from s1 os more) (sym (append-nil (b ∷ bytes)))
 
 -- ---- words of name bytes
 
@@ -45,13 +45,13 @@ name_word : (bytes : List ℕ) (x : Text) → Spells bytes (name x) → NameSpel
 name_word _ _ (as_name b rest letter all le none) = record { right = record { first = b; others = rest; parts = refl; all = all }; is = refl }
 
 -- a word that is skipped, with bytes in its place
-word_skipped : (s s1 : Spot) (os : List Order) (wanted new : List ℕ) (b : ℕ) (bytes : List ℕ) (t : Lexeme) (more : List Piece) →
+word_skipped : (s s1 : TokenPlace) (os : List Order) (wanted new : List ℕ) (b : ℕ) (bytes : List ℕ) (t : Lexeme) (more : List Piece) →
     mode_of s1 ≡ Copying → every is_name_byte bytes ≡ true → goes_on (text_of more) ≡ false →
     at_token s (Some (put wanted)) t b ≡ step new s1 Skipping true → from s (put wanted ∷ os) (a_token (b ∷ bytes) t ∷ more) ≡ new ++ from s1 os more
 word_skipped s s1 os wanted new b bytes t more mode all off is =
     let first : from s (put wanted ∷ os) (a_token (b ∷ bytes) t ∷ more) ≡ new ++ walked s1 Skipping os (plain bytes ++ marks_of more) =
     ap (λ (x : Step). after_step x (put wanted ∷ os) (plain bytes ++ marks_of more)) is in
-    first ∙ ap (λ (l : List ℕ). new ++ l) (skips s1 os bytes (marks_of more) all ∙ skip_ends s1 os more off) ∙ ap (λ (k : Mode). new ++ walked s1 k os (marks_of more)) (sym mode)
+    first ∙ ap (λ (l : List ℕ). new ++ l) (skips s1 os bytes (marks_of more) all ∙ skip_ends s1 os more off) ∙ ap (λ (k : GapMode). new ++ walked s1 k os (marks_of more)) (sym mode)
 
 -- ---- a name with a RANGE, and a literal in place of another one
 

@@ -1,6 +1,6 @@
 -- How a walk in memory goes on.
 use Rattle.prem_annotating.proofs.Prelude.{order_of, one_if, behind_token, behind_byte, if_begun, by_token, advanced, over, Order, Step, at_token, at_byte, begins, same_place, first_order}
-use Rattle.prem_annotating.proofs.Prelude.{rest_if, first_if, tokens_behind, marked, walked, behind, Mode, Spot, Place, Seen, seen_of, lexeme_of, ◌≡◌, ◌<◌, ◌≤◌, ℕ, zero, suc, ◌+◌, Bool}
+use Rattle.prem_annotating.proofs.Prelude.{rest_if, first_if, tokens_behind, marked, walked, behind, GapMode, TokenPlace, Place, Seen, seen_of, lexeme_of, ◌≡◌, ◌<◌, ◌≤◌, ℕ, zero, suc, ◌+◌, Bool}
 use Rattle.prem_annotating.proofs.Prelude.{true, false, List, [], ◌∷◌, ◌++◌, length, get_or, drop, map, Option, None, Some, refl, sym, ap, ◌∙◌, arith, append_assoc, drop-cons, add-one}
 use Rattle.prem_annotating.proofs.Prelude.{drop_all, option_map, slice_get, ◌==◌, if◌then◌else◌}
 use Rattle.prem_annotating.specs.declared.editing.walk.Order.{Order as OrderTree}
@@ -43,12 +43,12 @@ rest_there false os n = let k : n ≡ n + 0 = omega arith in ap (λ m. drop m os
 abbrev over_lists : List Spotted → List OrderTree → Place → Standing → List ℕ → List ℕ
 over_lists tokens orders at s text = walked s.spot s.mode (drop s.order (map order_of orders)) (marked at (drop s.token (map seen_of tokens)) text)
 
-no_token : (ts : List Seen) (at : Place) (spot : Spot) (mode : Mode) (os : List Order) (b : ℕ) (rest : List ℕ) → begins at ts ≡ false →
+no_token : (ts : List Seen) (at : Place) (spot : TokenPlace) (mode : GapMode) (os : List Order) (b : ℕ) (rest : List ℕ) → begins at ts ≡ false →
     walked spot mode os (marked at ts (b ∷ rest)) ≡ (at_byte mode b).0 ++ walked spot (at_byte mode b).1 os (marked (behind at b) ts rest)
 no_token [] at spot mode os b rest is = refl
 no_token (t ∷ ts) at spot mode os b rest is = ap (λ (x : Bool). walked spot mode os ((b, first_if x (t ∷ ts)) ∷ marked (behind at b) (tokens_behind x (t ∷ ts)) rest)) is
 
-one_token : (t : Seen) (ts : List Seen) (at : Place) (spot : Spot) (mode : Mode) (os : List Order) (b : ℕ) (rest : List ℕ) → same_place t.1 at ≡ true →
+one_token : (t : Seen) (ts : List Seen) (at : Place) (spot : TokenPlace) (mode : GapMode) (os : List Order) (b : ℕ) (rest : List ℕ) → same_place t.1 at ≡ true →
     walked spot mode os (marked at (t ∷ ts) (b ∷ rest)) ≡ (at_token spot (first_order os) t.0 b).bytes
     ++ walked (at_token spot (first_order os) t.0 b).behind.spot (at_token spot (first_order os) t.0 b).behind.mode
     (rest_if (at_token spot (first_order os) t.0 b).behind.done os) (marked (behind at b) ts rest)

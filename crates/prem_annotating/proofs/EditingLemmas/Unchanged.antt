@@ -2,7 +2,7 @@
 use Rattle.prem_annotating.proofs.Prelude.{length_bytes, regions_bytes, length_order, regions_order, mark_orders, range_order, range_orders, function_orders, Wanted, annotations}
 use Rattle.prem_annotating.proofs.Prelude.{unplaced_wanted, all_orders, edited_text, text_with, StaysWhereSame, Order, leave, put, put_for, Marked, Step, is_type, is_predictable, is_range}
 use Rattle.prem_annotating.proofs.Prelude.{is_open, is_close, type_or, elsewhere, behind_type, behind_name, in_range, at_literal, at_close, at_name, kept, in_mark, in_parameters, at_token}
-use Rattle.prem_annotating.proofs.Prelude.{first_order, rest_if, walked, begins, tokens_behind, marked, behind, edited, Copying, Spot, Elsewhere, BehindType, BehindName, InMark}
+use Rattle.prem_annotating.proofs.Prelude.{first_order, rest_if, walked, begins, tokens_behind, marked, behind, edited, Copying, TokenPlace, Elsewhere, BehindType, BehindName, InMark}
 use Rattle.prem_annotating.proofs.Prelude.{AmongRegions, InParameters, InRange, functions_of, Parameter, RegionText, MarkText, FunctionText, ProgramText, Place, text_read, unplaced_region}
 use Rattle.prem_annotating.proofs.Prelude.{unplaced_mark, Lexeme, name, number, word, mark, end_of_text, Seen, tokens_of, reads, FrontFail, Word, ◌≡◌, ℕ, Bool, true, false, List, [], ◌∷◌}
 use Rattle.prem_annotating.proofs.Prelude.{◌++◌, length, map, Option, None, Some, Result, Ok, Err, refl, sym, ap, subst, ◌∙◌, arith, nat_tests, option_map, ◌==◌, if◌then◌else◌}
@@ -11,7 +11,7 @@ use Rattle.std.proofs.Common.{ℤ}
 
 -- ---- one step
 
-abbrev is_plain : Spot → Bool
+abbrev is_plain : TokenPlace → Bool
 is_plain (AmongRegions more) = false
 is_plain _ = true
 
@@ -21,10 +21,10 @@ record Plain (b : ℕ) (step : Step) : Type 0 where
   mode : step.behind.mode ≡ Copying
   spot : is_plain step.behind.spot ≡ true
 
-kept_plain : (b : ℕ) (s : Spot) → is_plain s ≡ true → Plain b (kept b s)
+kept_plain : (b : ℕ) (s : TokenPlace) → is_plain s ≡ true → Plain b (kept b s)
 kept_plain b s is = record { bytes = refl; mode = refl; spot = is }
 
-either_plain : (x : Bool) (a b : Spot) → is_plain a ≡ true → is_plain b ≡ true → is_plain (if x then a else b) ≡ true
+either_plain : (x : Bool) (a b : TokenPlace) → is_plain a ≡ true → is_plain b ≡ true → is_plain (if x then a else b) ≡ true
 either_plain true a b one two = one
 either_plain false a b one two = two
 
@@ -91,7 +91,7 @@ parameters_plain b o l (mark k) = kept_plain b _ (either_plain (is_close k) Else
 parameters_plain b o l (number v k) = kept_plain b InParameters refl
 parameters_plain b o l end_of_text = kept_plain b InParameters refl
 
-step_plain : (s : Spot) (o : Option Order) (t : Lexeme) (b : ℕ) → is_plain s ≡ true → Leaves o → Plain b (at_token s o t b)
+step_plain : (s : TokenPlace) (o : Option Order) (t : Lexeme) (b : ℕ) → is_plain s ≡ true → Leaves o → Plain b (at_token s o t b)
 step_plain Elsewhere o t b is l = kept_plain b (elsewhere t) (elsewhere_plain t)
 step_plain BehindType o t b is l = kept_plain b (behind_type t) (behind_type_plain t)
 step_plain BehindName o t b is l = kept_plain b (behind_name t) (behind_name_plain t)
@@ -115,7 +115,7 @@ rest_leaves true [] l = tt
 rest_leaves true (o ∷ os) l = l.1
 rest_leaves false os l = l
 
-leave_walks : (s : Spot) (os : List Order) (ms : List Marked) → is_plain s ≡ true → AllLeave os → walked s Copying os ms ≡ map (λ (x : Marked). x.0) ms
+leave_walks : (s : TokenPlace) (os : List Order) (ms : List Marked) → is_plain s ≡ true → AllLeave os → walked s Copying os ms ≡ map (λ (x : Marked). x.0) ms
 leave_walks s os [] is l = refl
 leave_walks s os ((b, None) ∷ rest) is l = ap (λ (x : List ℕ). b ∷ x) (leave_walks s os rest is l)
 leave_walks s os ((b, Some t) ∷ rest) is l =

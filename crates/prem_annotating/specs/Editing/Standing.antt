@@ -2,7 +2,7 @@
 use Rattle.prem_annotating.specs.Prelude.{Place, lexeme_of, option_map, ℕ, ◌+◌, Bool, true, false, List, [], ◌∷◌, ◌++◌, slice_get, Option, None, Some}
 use Rattle.prem_annotating.specs.Editing.Orders.{order_of}
 use Rattle.prem_annotating.specs.Editing.Walk.{Step, at_token, at_byte, same_place, behind}
-use Rattle.prem_annotating.specs.declared.editing.walk.Mode.{Mode}
+use Rattle.prem_annotating.specs.declared.editing.walk.GapMode.{GapMode}
 use Rattle.prem_annotating.specs.declared.editing.walk.Order.{Order as OrderTree}
 use Rattle.prem_annotating.specs.declared.editing.whole.Standing.{Standing}
 use Rattle.prem_text.specs.declared.lexing.token.token.Spotted.{Spotted}
@@ -14,7 +14,7 @@ one_if false = 0
 abbrev pub behind_token : Step → Standing → List ℕ × Standing
 behind_token step s = (step.bytes, record { spot = step.behind.spot; mode = step.behind.mode; token = s.token + 1; order = s.order + one_if step.behind.done })
 
-abbrev pub behind_byte : List ℕ × Mode → Standing → List ℕ × Standing
+abbrev pub behind_byte : List ℕ × GapMode → Standing → List ℕ × Standing
 behind_byte moved s = (moved.0, record { spot = s.spot; mode = moved.1; token = s.token; order = s.order })
 
 abbrev pub if_begun : Bool → Spotted → List OrderTree → Standing → ℕ → List ℕ × Standing

@@ -2,10 +2,10 @@
 use Rattle.prem_annotating.specs.Prelude.{Text, Place, Lexeme, name, number, word, mark, Seen, is_name_byte, Mark, ℕ, zero, suc, ◌+◌, ◌==◌, Bool, true, false, ◌&&◌, if◌then◌else◌, List, []}
 use Rattle.prem_annotating.specs.Prelude.{◌∷◌, ◌++◌, drop, Option, None, Some}
 use Rattle.prem_annotating.specs.declared.editing.walk.Behind.{Behind}
-use Rattle.prem_annotating.specs.declared.editing.walk.Mode.{Mode}
-use Rattle.prem_annotating.specs.declared.editing.walk.Mode.TheVariants.{Copying, Dropping, Skipping}
-use Rattle.prem_annotating.specs.declared.editing.walk.Spot.{Spot}
-use Rattle.prem_annotating.specs.declared.editing.walk.Spot.TheVariants.{Elsewhere, BehindType, BehindName, InMark, AmongRegions, InParameters, InRange}
+use Rattle.prem_annotating.specs.declared.editing.walk.GapMode.{GapMode}
+use Rattle.prem_annotating.specs.declared.editing.walk.GapMode.TheVariants.{Copying, Dropping, Skipping}
+use Rattle.prem_annotating.specs.declared.editing.walk.TokenPlace.{TokenPlace}
+use Rattle.prem_annotating.specs.declared.editing.walk.TokenPlace.TheVariants.{Elsewhere, BehindType, BehindName, InMark, AmongRegions, InParameters, InRange}
 use Rattle.prem_text.specs.declared.lexing.token.token.Word.{Word}
 use Rattle.prem_text.specs.declared.lexing.token.token.Mark.TheVariants as m
 use Rattle.prem_text.specs.declared.lexing.token.token.Word.TheVariants as w
@@ -26,11 +26,11 @@ pub record Step : Type 0 where
   pub bytes : List ℕ
   pub behind : Behind
 
-abbrev pub step : List ℕ → Spot → Mode → Bool → Step
+abbrev pub step : List ℕ → TokenPlace → GapMode → Bool → Step
 step bytes spot mode done = record { bytes = bytes; behind = record { spot = spot; mode = mode; done = done } }
 
 -- the byte stays, and so does the rest of its token
-abbrev pub kept : ℕ → Spot → Step
+abbrev pub kept : ℕ → TokenPlace → Step
 kept b spot = step (b ∷ []) spot Copying false
 
 abbrev pub is_type : Word → Bool
@@ -58,25 +58,25 @@ abbrev pub is_close : Mark → Bool
 is_close m.CloseParenthesis = true
 is_close _ = false
 
-abbrev pub type_or : Word → Spot
+abbrev pub type_or : Word → TokenPlace
 type_or k = if is_type k then BehindType else Elsewhere
 
 -- a function's mark begins, or a type, which may be that of a function
-abbrev pub elsewhere : Lexeme → Spot
+abbrev pub elsewhere : Lexeme → TokenPlace
 elsewhere (word k) = if is_predictable k then InMark else type_or k
 elsewhere _ = Elsewhere
 
-abbrev pub behind_type : Lexeme → Spot
+abbrev pub behind_type : Lexeme → TokenPlace
 behind_type (word k) = type_or k
 behind_type (name x) = BehindName
 behind_type _ = Elsewhere
 
 -- a type, a name and `(` begin the parameters of a function
-abbrev pub behind_name : Lexeme → Spot
+abbrev pub behind_name : Lexeme → TokenPlace
 behind_name (mark k) = if is_open k then InParameters else Elsewhere
 behind_name _ = Elsewhere
 
-abbrev pub in_range : Lexeme → Spot
+abbrev pub in_range : Lexeme → TokenPlace
 in_range (mark k) = if is_close k then InParameters else InRange
 in_range _ = InRange
 
@@ -85,11 +85,11 @@ at_literal b (Some (put bytes)) = step bytes InMark Skipping true
 at_literal b _ = step (b ∷ []) InMark Copying true
 
 -- behind the `)` of a mark, or of a region that goes, where so many more of these go
-abbrev pub behind_close : ℕ → Spot
+abbrev pub behind_close : ℕ → TokenPlace
 behind_close zero = Elsewhere
 behind_close (suc more) = AmongRegions more
 
-abbrev pub mode_of : Spot → Mode
+abbrev pub mode_of : TokenPlace → GapMode
 mode_of (AmongRegions more) = Dropping
 mode_of _ = Copying
 
@@ -103,7 +103,7 @@ in_mark b o (mark k) = if is_close k then at_close b o else kept b InMark
 in_mark b o _ = kept b InMark
 
 -- bytes go, and the walk stands at a spot
-abbrev pub gone : Spot → Step
+abbrev pub gone : TokenPlace → Step
 gone spot = step [] spot (mode_of spot) false
 
 -- a token of a region that goes
@@ -122,7 +122,7 @@ in_parameters b o (mark k) = kept b (if is_close k then Elsewhere else InParamet
 in_parameters b o _ = kept b InParameters
 
 -- a token begins with a byte, and an order comes next
-abbrev pub at_token : Spot → Option Order → Lexeme → ℕ → Step
+abbrev pub at_token : TokenPlace → Option Order → Lexeme → ℕ → Step
 at_token Elsewhere o t b = kept b (elsewhere t)
 at_token BehindType o t b = kept b (behind_type t)
 at_token BehindName o t b = kept b (behind_name t)
@@ -133,12 +133,12 @@ at_token InRange o t b = kept b (in_range t)
 
 -- ---- any other byte: one of a token behind its first, or of a gap
 
-abbrev pub skipped : ℕ → Bool → List ℕ × Mode
+abbrev pub skipped : ℕ → Bool → List ℕ × GapMode
 skipped b true = ([], Skipping)
 skipped b false = (b ∷ [], Copying)
 
 -- what is skipped is a run of name bytes
-abbrev pub at_byte : Mode → ℕ → List ℕ × Mode
+abbrev pub at_byte : GapMode → ℕ → List ℕ × GapMode
 at_byte Copying b = (b ∷ [], Copying)
 at_byte Dropping b = ([], Dropping)
 at_byte Skipping b = skipped b (is_name_byte b)
@@ -156,7 +156,7 @@ abbrev pub rest_if : Bool → List Order → List Order
 rest_if true os = drop 1 os
 rest_if false os = os
 
-abbrev pub walked : Spot → Mode → List Order → List Marked → List ℕ
+abbrev pub walked : TokenPlace → GapMode → List Order → List Marked → List ℕ
 walked spot mode os [] = []
 walked spot mode os ((b, None) ∷ rest) = (at_byte mode b).0 ++ walked spot (at_byte mode b).1 os rest
 walked spot mode os ((b, Some t) ∷ rest) =

@@ -13,7 +13,7 @@ use std::alloc::AllocError;
 
 /// Where a walk over the tokens of a text stands.
 #[derive(Clone, Copy, Debug)]
-pub enum Spot {
+pub enum TokenPlace {
     Elsewhere,
     /// Behind a type.
     BehindType,
@@ -30,7 +30,7 @@ pub enum Spot {
 
 /// What is done with bytes that begin no token.
 #[derive(Clone, Copy, Debug)]
-pub enum Mode {
+pub enum GapMode {
     Copying,
     Dropping,
     /// Name bytes are dropped, and what stands behind them is copied.
@@ -50,8 +50,8 @@ pub enum Order {
 /// Where a walk stands behind a token, and whether an order was for it.
 #[derive(Clone, Copy, Debug)]
 pub struct Behind {
-    pub spot: Spot,
-    pub mode: Mode,
+    pub spot: TokenPlace,
+    pub mode: GapMode,
     pub done: bool,
 }
 
@@ -88,104 +88,106 @@ fn is_close(sign: Mark) -> bool
     matches!(sign, Mark::CloseParenthesis)
 }
 
-fn type_or(word: Word) -> Spot
+fn type_or(word: Word) -> TokenPlace
     ensures { result ≡ type_or word }
 {
     if is_type(word) {
-        Spot::BehindType
+        TokenPlace::BehindType
     } else {
-        Spot::Elsewhere
+        TokenPlace::Elsewhere
     }
 }
 
-fn elsewhere(token: &Token) -> Spot
+fn elsewhere(token: &Token) -> TokenPlace
     ensures { result ≡ elsewhere (lexeme_of token.now) }
 {
     match token {
         Token::Word(word) => {
             if is_predictable(*word) {
-                Spot::InMark
+                TokenPlace::InMark
             } else {
                 type_or(*word)
             }
         }
-        Token::Name(_) | Token::Literal { .. } | Token::Mark(_) | Token::End => Spot::Elsewhere,
+        Token::Name(_) | Token::Literal { .. } | Token::Mark(_) | Token::End =>
+            TokenPlace::Elsewhere,
     }
 }
 
-fn behind_type(token: &Token) -> Spot
+fn behind_type(token: &Token) -> TokenPlace
     ensures { result ≡ behind_type (lexeme_of token.now) }
 {
     match token {
         Token::Word(word) => type_or(*word),
-        Token::Name(_) => Spot::BehindName,
-        Token::Literal { .. } | Token::Mark(_) | Token::End => Spot::Elsewhere,
+        Token::Name(_) => TokenPlace::BehindName,
+        Token::Literal { .. } | Token::Mark(_) | Token::End => TokenPlace::Elsewhere,
     }
 }
 
-fn behind_name(token: &Token) -> Spot
+fn behind_name(token: &Token) -> TokenPlace
     ensures { result ≡ behind_name (lexeme_of token.now) }
 {
     match token {
         Token::Mark(sign) => {
             if is_open(*sign) {
-                Spot::InParameters
+                TokenPlace::InParameters
             } else {
-                Spot::Elsewhere
+                TokenPlace::Elsewhere
             }
         }
-        Token::Name(_) | Token::Literal { .. } | Token::Word(_) | Token::End => Spot::Elsewhere,
+        Token::Name(_) | Token::Literal { .. } | Token::Word(_) | Token::End =>
+            TokenPlace::Elsewhere,
     }
 }
 
-fn in_range(token: &Token) -> Spot
+fn in_range(token: &Token) -> TokenPlace
     ensures { result ≡ in_range (lexeme_of token.now) }
 {
     match token {
         Token::Mark(sign) => {
             if is_close(*sign) {
-                Spot::InParameters
+                TokenPlace::InParameters
             } else {
-                Spot::InRange
+                TokenPlace::InRange
             }
         }
-        Token::Name(_) | Token::Literal { .. } | Token::Word(_) | Token::End => Spot::InRange,
+        Token::Name(_) | Token::Literal { .. } | Token::Word(_) | Token::End => TokenPlace::InRange,
     }
 }
 
-fn behind_close(regions: usize) -> Spot
+fn behind_close(regions: usize) -> TokenPlace
     ensures { result ≡ behind_close regions }
 {
     if regions == 0 {
-        Spot::Elsewhere
+        TokenPlace::Elsewhere
     } else {
-        Spot::AmongRegions { more: regions - 1 }
+        TokenPlace::AmongRegions { more: regions - 1 }
     }
 }
 
-fn mode_of(spot: Spot) -> Mode
+fn mode_of(spot: TokenPlace) -> GapMode
     ensures { result ≡ mode_of spot }
 {
     match spot {
-        Spot::AmongRegions { .. } => Mode::Dropping,
-        Spot::Elsewhere
-        | Spot::BehindType
-        | Spot::BehindName
-        | Spot::InMark
-        | Spot::InParameters
-        | Spot::InRange => Mode::Copying,
+        TokenPlace::AmongRegions { .. } => GapMode::Dropping,
+        TokenPlace::Elsewhere
+        | TokenPlace::BehindType
+        | TokenPlace::BehindName
+        | TokenPlace::InMark
+        | TokenPlace::InParameters
+        | TokenPlace::InRange => GapMode::Copying,
     }
 }
 
 /// The byte stays, and so does the rest of its token.
-fn keep(out: &mut Vec<u8>, byte: u8, spot: Spot) -> Result<Behind, AllocError>
+fn keep(out: &mut Vec<u8>, byte: u8, spot: TokenPlace) -> Result<Behind, AllocError>
     ensures put { OnOk result (out.new.items ≡ out.old.items ++ (kept byte spot).bytes) }
     ensures behind { IfOk result (λ b. b ≡ (kept byte spot).behind) }
 {
     out.push(byte)?;
     Ok(Behind {
         spot,
-        mode: Mode::Copying,
+        mode: GapMode::Copying,
         done: false,
     })
 }
@@ -197,15 +199,15 @@ fn at_literal(out: &mut Vec<u8>, byte: u8, order: Option<&Order>) -> Result<Behi
     let mode = match order {
         Some(Order::Put { text }) => {
             out.extend_from_slice(text)?;
-            Mode::Skipping
+            GapMode::Skipping
         }
         Some(Order::Leave) | Some(Order::PutFor { .. }) | None => {
             out.push(byte)?;
-            Mode::Copying
+            GapMode::Copying
         }
     };
     Ok(Behind {
-        spot: Spot::InMark,
+        spot: TokenPlace::InMark,
         mode,
         done: true,
     })
@@ -222,7 +224,7 @@ fn at_close(out: &mut Vec<u8>, byte: u8, order: Option<&Order>) -> Result<Behind
             out.extend_from_slice(text)?;
             behind_close(*regions)
         }
-        Some(Order::Leave) | Some(Order::Put { .. }) | None => Spot::Elsewhere,
+        Some(Order::Leave) | Some(Order::Put { .. }) | None => TokenPlace::Elsewhere,
     };
     Ok(Behind {
         spot,
@@ -246,15 +248,15 @@ fn in_mark(
             if is_close(*sign) {
                 at_close(out, byte, order)
             } else {
-                keep(out, byte, Spot::InMark)
+                keep(out, byte, TokenPlace::InMark)
             }
         }
-        Token::Name(_) | Token::Word(_) | Token::End => keep(out, byte, Spot::InMark),
+        Token::Name(_) | Token::Word(_) | Token::End => keep(out, byte, TokenPlace::InMark),
     }
 }
 
 /// The walk stands at a spot, and nothing is put.
-fn gone(spot: Spot) -> Behind
+fn gone(spot: TokenPlace) -> Behind
     ensures { result ≡ (gone spot).behind }
 {
     Behind {
@@ -273,11 +275,11 @@ fn among_regions(more: usize, token: &Token) -> Behind
             if is_close(*sign) {
                 gone(behind_close(more))
             } else {
-                gone(Spot::AmongRegions { more })
+                gone(TokenPlace::AmongRegions { more })
             }
         }
         Token::Name(_) | Token::Literal { .. } | Token::Word(_) | Token::End => {
-            gone(Spot::AmongRegions { more })
+            gone(TokenPlace::AmongRegions { more })
         }
     }
 }
@@ -295,15 +297,15 @@ fn at_name(
         Some(Order::Put { text }) => {
             out.extend_from_slice(name.bytes())?;
             out.extend_from_slice(text)?;
-            Mode::Skipping
+            GapMode::Skipping
         }
         Some(Order::Leave) | Some(Order::PutFor { .. }) | None => {
             out.push(byte)?;
-            Mode::Copying
+            GapMode::Copying
         }
     };
     Ok(Behind {
-        spot: Spot::InParameters,
+        spot: TokenPlace::InParameters,
         mode,
         done: true,
     })
@@ -322,26 +324,26 @@ fn in_parameters(
         Token::Name(name) => at_name(out, byte, order, name),
         Token::Word(word) => {
             if is_range(*word) {
-                keep(out, byte, Spot::InRange)
+                keep(out, byte, TokenPlace::InRange)
             } else {
-                keep(out, byte, Spot::InParameters)
+                keep(out, byte, TokenPlace::InParameters)
             }
         }
         Token::Mark(sign) => {
             if is_close(*sign) {
-                keep(out, byte, Spot::Elsewhere)
+                keep(out, byte, TokenPlace::Elsewhere)
             } else {
-                keep(out, byte, Spot::InParameters)
+                keep(out, byte, TokenPlace::InParameters)
             }
         }
-        Token::Literal { .. } | Token::End => keep(out, byte, Spot::InParameters),
+        Token::Literal { .. } | Token::End => keep(out, byte, TokenPlace::InParameters),
     }
 }
 
 /// A token begins with a byte, and an order comes next: what it gives is put behind a text.
 pub fn at_token(
     out: &mut Vec<u8>,
-    spot: Spot,
+    spot: TokenPlace,
     order: Option<&Order>,
     token: &Token,
     byte: u8,
@@ -350,13 +352,13 @@ pub fn at_token(
     ensures behind { IfOk result (λ b. b ≡ (at_token spot (option_map (λ o. order_of o.now) order.entry) (lexeme_of token.now) byte).behind) }
 {
     match spot {
-        Spot::Elsewhere => keep(out, byte, elsewhere(token)),
-        Spot::BehindType => keep(out, byte, behind_type(token)),
-        Spot::BehindName => keep(out, byte, behind_name(token)),
-        Spot::InMark => in_mark(out, byte, order, token),
-        Spot::AmongRegions { more } => Ok(among_regions(more, token)),
-        Spot::InParameters => in_parameters(out, byte, order, token),
-        Spot::InRange => keep(out, byte, in_range(token)),
+        TokenPlace::Elsewhere => keep(out, byte, elsewhere(token)),
+        TokenPlace::BehindType => keep(out, byte, behind_type(token)),
+        TokenPlace::BehindName => keep(out, byte, behind_name(token)),
+        TokenPlace::InMark => in_mark(out, byte, order, token),
+        TokenPlace::AmongRegions { more } => Ok(among_regions(more, token)),
+        TokenPlace::InParameters => in_parameters(out, byte, order, token),
+        TokenPlace::InRange => keep(out, byte, in_range(token)),
     }
 }
 
@@ -367,22 +369,22 @@ fn is_name_byte(byte: u8) -> bool
 }
 
 /// A byte that begins no token.
-pub fn at_byte(out: &mut Vec<u8>, mode: Mode, byte: u8) -> Result<Mode, AllocError>
+pub fn at_byte(out: &mut Vec<u8>, mode: GapMode, byte: u8) -> Result<GapMode, AllocError>
     ensures put { OnOk result (out.new.items ≡ out.old.items ++ (at_byte mode byte).0) }
     ensures behind { IfOk result (λ m. m ≡ (at_byte mode byte).1) }
 {
     match mode {
-        Mode::Copying => {
+        GapMode::Copying => {
             out.push(byte)?;
-            Ok(Mode::Copying)
+            Ok(GapMode::Copying)
         }
-        Mode::Dropping => Ok(Mode::Dropping),
-        Mode::Skipping => {
+        GapMode::Dropping => Ok(GapMode::Dropping),
+        GapMode::Skipping => {
             if is_name_byte(byte) {
-                Ok(Mode::Skipping)
+                Ok(GapMode::Skipping)
             } else {
                 out.push(byte)?;
-                Ok(Mode::Copying)
+                Ok(GapMode::Copying)
             }
         }
     }

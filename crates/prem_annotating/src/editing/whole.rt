@@ -6,7 +6,7 @@ ghost use Rattle.prem_annotating.specs.Editing.Walk.{behind, same_place, at_toke
 ghost use Rattle.prem_annotating.specs.Editing.Orders.{order_of, edited_text};
 ghost use Rattle.prem_annotating.specs.Editing.Standing.{behind_token, behind_byte, advanced};
 
-use crate::editing::walk::{Mode, Order, Spot, at_byte, at_token};
+use crate::editing::walk::{GapMode, Order, TokenPlace, at_byte, at_token};
 use prem_syntax::Place;
 use prem_text::lexing::token::{FrontFail, Spotted, Token};
 use prem_text::lexing::tokens;
@@ -15,8 +15,8 @@ use std::alloc::{AllocError, Global};
 /// Where a walk stands: the numbers of the next token and of the next order.
 #[derive(Clone, Copy, Debug)]
 pub struct Standing {
-    pub spot: Spot,
-    pub mode: Mode,
+    pub spot: TokenPlace,
+    pub mode: GapMode,
     pub token: usize,
     pub order: usize,
 }
@@ -121,8 +121,8 @@ fn edited(
 {
     let mut out = Vec::new(alloc);
     let mut standing = Standing {
-        spot: Spot::Elsewhere,
-        mode: Mode::Copying,
+        spot: TokenPlace::Elsewhere,
+        mode: GapMode::Copying,
         token: 0,
         order: 0,
     };

@@ -19,7 +19,7 @@ pub struct Built {
 
 /// The files so far, the newest one last, and the bytes of the one to come.
 #[derive(Drop)]
-pub struct Bench {
+pub struct BuiltFiles {
     pub files: Vec<Built>,
     bytes: Vec<u8>,
 }
@@ -44,9 +44,9 @@ fn find<'a>(files: &'a [Built], name: &str) -> &'a [u8] {
     &[]
 }
 
-impl Bench {
-    pub fn new(alloc: Global) -> Bench {
-        Bench {
+impl BuiltFiles {
+    pub fn new(alloc: Global) -> BuiltFiles {
+        BuiltFiles {
             files: Vec::new(alloc),
             bytes: Vec::new(alloc),
         }

@@ -13,7 +13,7 @@ use std::io;
 
 /// A core whose interval began in cycle 20, with its cache and its memory.
 #[derive(Drop)]
-struct Bench {
+struct CoreBench {
     core: Core,
     cache: Cache<Lru>,
     memory: Memory,
@@ -29,9 +29,9 @@ fn is_wanted(want: CoreWant) -> bool
     !matches!(want, CoreWant::No)
 }
 
-impl Bench {
+impl CoreBench {
     /// Over a program that puts a word out, of which its job is to come.
-    fn new(alloc: Global) -> Result<Option<Bench>, AllocError> {
+    fn new(alloc: Global) -> Result<Option<CoreBench>, AllocError> {
         let mut content = Vec::new(alloc);
         for word in OUT_FIVE {
             content.extend_from_slice(&word.to_le_bytes())?;
@@ -43,7 +43,7 @@ impl Bench {
         let cache = Cache::<Lru>::new(alloc, &PLANT)?;
         let mut core = Core::start(0, 64, Target::Rv32i);
         core.begin(20);
-        Ok(Some(Bench {
+        Ok(Some(CoreBench {
             core,
             cache,
             memory,
@@ -116,7 +116,7 @@ fn output(issued: Issued) -> Option<u32> {
 // missed first, then that of the stack at 48 by a store, and those of 16 and 32.
 pub(crate) fn tell(rt: &impl Print, alloc: Global) -> io::Result<()> {
     println!(rt; "# a core by itself")?;
-    let Some(mut bench) = Bench::new(alloc)? else {
+    let Some(mut bench) = CoreBench::new(alloc)? else {
         return Ok(());
     };
     for _ in 0..11 {

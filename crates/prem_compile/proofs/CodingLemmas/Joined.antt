@@ -22,8 +22,8 @@ use Rattle.prem_prefetch.specs.declared.sizes.coded.CodedTask.{CodedTask}
 use Rattle.prem_stages.specs.declared.code.CodedProgram.{CodedProgram}
 use Rattle.prem_stages.specs.Coded.{AreCoded}
 use Rattle.prem_stages.proofs.Groups.{late_four}
-use Rattle.prem_sets_sound.proofs.AcceptedLemmas.Follow.{not_late}
-use Rattle.prem_sets_sound.proofs.EachLemmas.Filled.{not_exceeding}
+use Rattle.prem_sets_sound.proofs.ImagePremisesLemmas.Follow.{not_late}
+use Rattle.prem_sets_sound.proofs.TaskRunsLemmas.Filled.{not_exceeding}
 use Rattle.prem_compile.specs.Coding.Tasks.{AreTasksOf}
 use Rattle.prem_compile.specs.Joined.{HasCode}
 

@@ -27,7 +27,10 @@ fn coded_task<'a, 'p>(
     ensures same { IfOk result (λ t. coded_in t ≡ coded_with (task_of task.now) coded.entry) }
     ensures coded { IfOk result IsCodedTask }
 {
-    let program = coded.program.resolved;
+    let bounded = coded.program;
+    let code = coded.code;
+    let program = bounded.resolved;
+    let turns = bounded.turns;
     let facts = facts_of(alloc, &program)?;
     let plans = intervals_of(alloc, &program, &facts)?;
     let stack = stack_size(&program, &facts);
@@ -36,10 +39,10 @@ fn coded_task<'a, 'p>(
         period: task.period,
         jobs: task.jobs,
         program,
-        turns: coded.program.turns,
+        turns,
         plans,
         stack,
-        code: coded.code,
+        code,
     })
 }
 

@@ -45,21 +45,21 @@ use Rattle.prem_sets_sound.specs.StubLaws.StubWeave.StubWeave.{StubStands}
 use Rattle.prem_sets_sound.specs.StubLaws.JobWeave.Confined.{Confinement, with_confined, confined_calls}
 use Rattle.prem_sets_sound.specs.StubLaws.Confined.Meaning.{stub_run}
 use Rattle.prem_sets_sound.proofs.StubLawsLemmas.ConfinedLemmas.Meaning.{stub_called}
-use Rattle.prem_sets_sound.specs.StubLaws.Dues.Charged.{call_weight}
+use Rattle.prem_sets_sound.specs.StubLaws.JobCharges.Charged.{call_weight}
 use Rattle.prem_sets_sound.specs.TaskLaws.TaskFrame.Kept.{KeepsTaskRules}
 use Rattle.prem_sets_sound.specs.TaskLaws.TaskFrame.Frames.{task_guard, job_frame}
 use Rattle.prem_sets_sound.specs.TaskLaws.TaskFrame.Callees.{callees_in, job_callable, plain_callable}
 use Rattle.prem_sets_sound.specs.TaskLaws.TaskBytes.Parts.{IsPlacedTask}
 use Rattle.prem_sets_sound.proofs.TaskLawsLemmas.ProgramFitsLemmas.Stubs.{job_stubs_fit}
 use Rattle.prem_sets_sound.proofs.TaskLawsLemmas.TaskBytesLemmas.Start.{run_starts}
-use Rattle.prem_sets_sound.specs.Each.Called.{confinement_of, confinement_in, stub_at, task_calls, job_calls}
+use Rattle.prem_sets_sound.specs.TaskRuns.Called.{confinement_of, confinement_in, stub_at, task_calls, job_calls}
 use Rattle.prem_sets_sound.proofs.TaskLawsLemmas.TaskBytesLemmas.Parts.{plans_are, at_parts}
-use Rattle.prem_sets_sound.proofs.EachLemmas.Filled.{program_keeps, codes_stand, routine_at, plan_there}
-use Rattle.prem_sets_sound.proofs.EachLemmas.Stubs.{stands as stub_stands}
+use Rattle.prem_sets_sound.proofs.TaskRunsLemmas.Filled.{program_keeps, codes_stand, routine_at, plan_there}
+use Rattle.prem_sets_sound.proofs.TaskRunsLemmas.Stubs.{stands as stub_stands}
 use Rattle.prem_sets_sound.proofs.TaskLawsLemmas.ProgramFitsLemmas.Functions.{plain_tasks_fit}
-use Rattle.prem_sets_sound.proofs.EachLemmas.Words.{job_fits}
-use Rattle.prem_sets_sound.proofs.EachLemmas.Means.{JobStands, callees_mean}
-use Rattle.prem_sets_sound.proofs.EachLemmas.Each.{marked_there, stub_meant, job_stands}
+use Rattle.prem_sets_sound.proofs.TaskRunsLemmas.Words.{job_fits}
+use Rattle.prem_sets_sound.proofs.TaskRunsLemmas.Means.{JobStands, callees_mean}
+use Rattle.prem_sets_sound.proofs.TaskRunsLemmas.Each.{marked_there, stub_meant, job_stands}
 use Rattle.prem_wcet_laws.specs.Scopes.{Fact, Scene, fact_of}
 use Rattle.prem_wcet_laws.specs.Wcet.{frame_range, below_range, stack_of, known_scene, scene_of, fact_at}
 use Rattle.prem_wcet_laws.specs.Parted.{cuts, called_parted, parted_function, bottom_of}
@@ -81,7 +81,7 @@ use Rattle.prem_latency.proofs.WcetLemmas.OpeningRuns.{StubSection, stub_section
 use Rattle.prem_latency.proofs.WcetLemmas.Marked.{marked_is, section_is_marked, marked_sums_are}
 use Rattle.prem_layout.specs.Stretch.Sums.{marked_sums_of, IsWithin}
 use Rattle.prem_layout.proofs.StretchLemmas.Order.{within_same}
-use Rattle.prem_wcet_laws.specs.Counts.{Count, marked_count}
+use Rattle.prem_wcet_laws.specs.Counts.{PathCount, marked_count}
 
 -- ---- small facts
 
@@ -297,9 +297,9 @@ module _ (passes : ℕ → ℕ) (p : Plant) (devices : List Device) (tasks : Lis
               let count_of_call : called_parted (scene job) f ≡ marked_count p plans (marked_before f P.routines) =
               ap (λ b. cond b (marked_count p plans (marked_before f P.routines)) (fact_of (scene job) f).parted) marked in
               let weight_is : (called_parted (scene job) f).total ≡ call_weight p told_of.plan.stated =
-              ap (λ (z : Count). z.total) count_of_call ∙ marked_is p plans (marked_before f P.routines) told_of.plan told_of.there in
+              ap (λ (z : PathCount). z.total) count_of_call ∙ marked_is p plans (marked_before f P.routines) told_of.plan told_of.there in
               let sums_are : (called_parted (scene job) f).sums ≡ marked_sums_of p =
-              ap (λ (z : Count). z.sums) count_of_call ∙ marked_sums_are p plans (marked_before f P.routines) told_of.plan told_of.there in
+              ap (λ (z : PathCount). z.sums) count_of_call ∙ marked_sums_are p plans (marked_before f P.routines) told_of.plan told_of.there in
               subst (RunCourses p (is_marked (is_marked_call p counts)) (called_parted (scene job) f)) (sym b.goes)
               (record {
                 division = section b.trace (call_weight p told_of.plan.stated) ends;

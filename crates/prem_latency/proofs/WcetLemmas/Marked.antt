@@ -14,7 +14,7 @@ use Rattle.prem_code_laws.specs.PrefetchLaws.Stubs.{memory_step}
 use Rattle.prem_code_laws.specs.PrefetchLaws.Confined.{return_step}
 use Rattle.prem_sets_sound.specs.Weave.Weave.{Section, IsSection, segment_of, section_dids}
 use Rattle.prem_sets_sound.specs.StubLaws.StubWeave.StubWeave.{StubAt}
-use Rattle.prem_sets_sound.specs.StubLaws.Dues.Charged.{call_weight}
+use Rattle.prem_sets_sound.specs.StubLaws.JobCharges.Charged.{call_weight}
 use Rattle.prem_latency.specs.Wcet.Openings.{up_to_end}
 use Rattle.prem_latency.specs.Wcet.Marked.{is_stay, goes_by, goes_to_end, is_memory, is_call, is_marked_call, first_within, last_within, last_due, call_due}
 use Rattle.prem_latency.proofs.WcetLemmas.Openings.{section_ends, last_is}

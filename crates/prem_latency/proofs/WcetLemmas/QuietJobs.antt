@@ -19,8 +19,8 @@ use Rattle.prem_sets_sound.specs.StubLaws.Initial.Standing.{setting_of, globals_
 use Rattle.prem_sets_sound.specs.StubLaws.StubFits.Within.{codes_in}
 use Rattle.prem_sets_sound.specs.TaskLaws.TaskFrame.Frames.{task_guard, job_frame}
 use Rattle.prem_sets_sound.specs.TaskLaws.TaskFrame.Callees.{callees_in, job_callable, plain_callable}
-use Rattle.prem_sets_sound.specs.Each.Called.{task_calls, job_calls}
-use Rattle.prem_sets_sound.proofs.EachLemmas.Filled.{program_keeps}
+use Rattle.prem_sets_sound.specs.TaskRuns.Called.{task_calls, job_calls}
+use Rattle.prem_sets_sound.proofs.TaskRunsLemmas.Filled.{program_keeps}
 use Rattle.prem_wcet_laws.specs.Scopes.{Fact, fact_of, lines_in, charge}
 use Rattle.prem_wcet_laws.specs.Wcet.{stack_of, known_scene, scene_of, fact_at, start_span}
 use Rattle.prem_wcet_laws.specs.Parted.{cuts, has_cut}
@@ -31,7 +31,7 @@ use Rattle.prem_latency.proofs.WcetLemmas.Stands.{placed_tasks_stand, placed_fra
 use Rattle.prem_sets_sound.proofs.TaskLawsLemmas.ProgramFitsLemmas.Functions.{functions_fit}
 use Rattle.prem_sets_sound.proofs.TaskLawsLemmas.TaskGroundLemmas.Stands.{jobs_stand}
 use Rattle.prem_sets_sound.proofs.TaskLawsLemmas.TaskBytesLemmas.Parts.{parts_of_task, laid}
-use Rattle.prem_sets_sound.proofs.EachLemmas.Filled.{code_is, table_code, code_within, small_memory}
+use Rattle.prem_sets_sound.proofs.TaskRunsLemmas.Filled.{code_is, table_code, code_within, small_memory}
 use Rattle.prem_wcet_laws.specs.Divided.{RunDivides}
 use Rattle.prem_wcet_laws.proofs.Scenes.{quiet_jobs_divide}
 use Rattle.prem_latency.specs.Wcet.QuietJobs.{PlacedQuietJobsDivide, PlacedQuietStarts}

@@ -16,8 +16,8 @@ use Rattle.prem_layout.specs.Placed.{Placed}
 use Rattle.prem_tasks.specs.Compiled.{places_in}
 use Rattle.prem_tasks.specs.At.{placed_by, compiled_at}
 use Rattle.prem_sets_sound.specs.PlacesSound.At.{promises_at}
-use Rattle.prem_sets_sound.proofs.AcceptedLemmas.Sample.{sample, sample_values, sample_breaks_nothing}
-use Rattle.prem_sets_sound.proofs.AcceptedLemmas.Whole.{default_places_are_lawful}
+use Rattle.prem_sets_sound.proofs.ImagePremisesLemmas.Sample.{sample, sample_values, sample_breaks_nothing}
+use Rattle.prem_sets_sound.proofs.ImagePremisesLemmas.Whole.{default_places_are_lawful}
 use Rattle.prem_sets_sound.proofs.PlacesSoundLemmas.At.{default_is_at}
 use Rattle.prem_wcet_laws.specs.Opens.{opens_of}
 use Rattle.prem_latency.specs.Wcet.Tasks.{task_wcet, task_stretch, task_closed}

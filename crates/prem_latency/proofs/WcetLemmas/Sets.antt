@@ -17,25 +17,25 @@ use Rattle.prem_tasks.specs.Compiled.{coded_in}
 use Rattle.prem_tasks.specs.At.{placed_by}
 use Rattle.prem_sets_sound.specs.StubLaws.Own.Owned.{own_of, setup_of}
 use Rattle.prem_sets_sound.specs.StubLaws.Initial.Initial.{content_of}
-use Rattle.prem_sets_sound.specs.StubLaws.Join.Joined.{JobLimits}
+use Rattle.prem_sets_sound.specs.StubLaws.JoinedRuns.Joined.{JobLimits}
 use Rattle.prem_sets_sound.specs.TaskLaws.TaskFrame.Limits.{task_limits}
 use Rattle.prem_sets_sound.specs.TaskLaws.TaskBytes.Parts.{IsPlacedTask}
-use Rattle.prem_sets_sound.specs.Accepted.Accepted.{HasCodedValues, IsLaidOut, limits_at, no_limits}
+use Rattle.prem_sets_sound.specs.ImagePremises.Accepted.{HasCodedValues, IsLaidOut, limits_at, no_limits}
 use Rattle.prem_sets_sound.specs.Meant.{AreMeant}
 use Rattle.prem_sets_sound.specs.PlacesSound.At.{promises_at}
 use Rattle.prem_sets_sound.proofs.Sound.{as_stubs_make, meant_tasks_join, task_there, there}
 use Rattle.prem_sets_sound.proofs.PlacesSoundLemmas.At.{groups, laid_out, tasks_are_meant}
-use Rattle.prem_sets_sound.proofs.AcceptedLemmas.Whole.{laid_out_images_join}
+use Rattle.prem_sets_sound.proofs.ImagePremisesLemmas.Whole.{laid_out_images_join}
 use Rattle.prem_sets_sound.specs.StubLaws.Charges.Charges.{TaskCharges}
 use Rattle.prem_sets_sound.proofs.StubLawsLemmas.ChargesLemmas.Images.{joined_images_are_sound_by_charges}
-use Rattle.prem_sets_sound.specs.Each.Joins.{promise_for}
+use Rattle.prem_sets_sound.specs.TaskRuns.Joins.{promise_for}
 use Rattle.prem_latency.specs.Wcet.Tasks.{task_wcet, task_stretch, task_closed, TaskShuts}
 use Rattle.prem_latency.specs.Wcet.Sets.{wcet_at, stretch_at, closed_at, MeantTasksGoByWcet, MeantTasksShutByWcet, SetsGoByWcet}
 use Rattle.prem_latency.proofs.WcetLemmas.Tasks.{tasks_go_by_wcet, tasks_shut_by_wcet}
 use Rattle.std.proofs.lemmas.List.{length-map}
 use Rattle.prem_layout.specs.Image.{task_record}
-use Rattle.prem_sets_sound.proofs.AcceptedLemmas.Records.{have_code}
-use Rattle.prem_sets_sound.proofs.EachLemmas.Words.{all_there}
+use Rattle.prem_sets_sound.proofs.ImagePremisesLemmas.Records.{have_code}
+use Rattle.prem_sets_sound.proofs.TaskRunsLemmas.Words.{all_there}
 
 module _ (passes : ℕ → ℕ) (p : Plant) (devices : List Device) (tasks : List Coded) (places : List Extent) (promises : List (List ℕ) → ℕ → Promise)
     (laid : IsLaidOut p devices tasks places) (same : passes p.ways ≡ pass_count (stub_passes p))

@@ -15,8 +15,8 @@ use Rattle.prem_sets_sound.proofs.TaskLawsLemmas.TaskGroundLemmas.Depths.{callee
 use Rattle.prem_sets_sound.proofs.TaskLawsLemmas.TaskGroundLemmas.Elements.{base_is, element_lies}
 use Rattle.prem_sets_sound.proofs.TaskLawsLemmas.ProgramFitsLemmas.Functions.{plain_tasks_fit}
 use Rattle.prem_sets_sound.proofs.TaskLawsLemmas.TaskBytesLemmas.Parts.{laid}
-use Rattle.prem_sets_sound.proofs.EachLemmas.Filled.{program_keeps, code_is, codes_stand}
-use Rattle.prem_sets_sound.proofs.EachLemmas.Words.{job_fits}
+use Rattle.prem_sets_sound.proofs.TaskRunsLemmas.Filled.{program_keeps, code_is, codes_stand}
+use Rattle.prem_sets_sound.proofs.TaskRunsLemmas.Words.{job_fits}
 use Rattle.prem_wcet_laws.proofs.Held.{held_by}
 use Rattle.prem_wcet_laws.specs.Wcet.{frame_range, below_range}
 use Rattle.prem_latency.specs.Wcet.Stands.{PlacedTasksStand, PlacedFramesStand}

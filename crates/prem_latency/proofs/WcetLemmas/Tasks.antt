@@ -36,9 +36,9 @@ use Rattle.prem_sets_sound.specs.TaskLaws.TaskFrame.Frames.{task_guard, job_fram
 use Rattle.prem_sets_sound.specs.TaskLaws.TaskFrame.Kept.{KeepsTaskRules}
 use Rattle.prem_sets_sound.specs.TaskLaws.TaskFrame.Limits.{task_limits}
 use Rattle.prem_sets_sound.specs.TaskLaws.TaskBytes.Parts.{IsPlacedTask}
-use Rattle.prem_sets_sound.specs.Each.Called.{job_calls}
-use Rattle.prem_sets_sound.specs.Each.Joins.{promise_for, task_longest, JobsTell}
-use Rattle.prem_sets_sound.proofs.EachLemmas.Each.{tasks_tell}
+use Rattle.prem_sets_sound.specs.TaskRuns.Called.{job_calls}
+use Rattle.prem_sets_sound.specs.TaskRuns.Joins.{promise_for, task_longest, JobsTell}
+use Rattle.prem_sets_sound.proofs.TaskRunsLemmas.Each.{tasks_tell}
 use Rattle.prem_sets_sound.proofs.TaskLawsLemmas.TaskBytesLemmas.Parts.{parts_of_task}
 use Rattle.prem_sets_sound.proofs.TaskLawsLemmas.TaskBytesLemmas.Start.{run_starts}
 use Rattle.prem_sets_sound.specs.StubLaws.Charges.Charges.{script_of, TaskCharges}

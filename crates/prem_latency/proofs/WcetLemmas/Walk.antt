@@ -23,7 +23,7 @@ use Rattle.prem_sets_sound.specs.Weave.Weave.{Weave, ends, goes, joined, segment
 use Rattle.prem_sets_sound.specs.StubLaws.JobWeave.Jobs.{JobRun, all_jobs, EachJob}
 use Rattle.prem_sets_sound.proofs.WeaveLemmas.Joins.{weaves_join}
 use Rattle.prem_sound.specs.Scopes.Strands as S
-use Rattle.prem_wcet_laws.specs.Counts.{Count, quiet, then_count}
+use Rattle.prem_wcet_laws.specs.Counts.{PathCount, quiet, then_count}
 use Rattle.prem_wcet_laws.specs.Divided.{charge_of, path_of, Courses, StaysOn, scope_charge}
 use Rattle.prem_wcet_laws.specs.PartedLaws.{is_marked}
 use Rattle.prem_wcet_laws.proofs.Alone.{control_divides}
@@ -82,7 +82,7 @@ next_states s begun xs ys h i lt =
     subst (λ j. (call_at s j).stated ≤ slice_index_or ys i 0) e (subst (λ m. (call_at s (begun + (length xs + i))).stated ≤ m) (next_counts xs ys i) (h (length xs + i) (omega (arith, lt, n))))
 
 module _ (p : Plant) (passes : ℕ → ℕ) (counts : List Did → ℕ) (s : Setting) (gs : Globals) (limits : Limits) (program : Resolved) (own : TaskRun)
-    (calls : Calls) (start job : ℕ) (call : Count) (cost most : ℕ)
+    (calls : Calls) (start job : ℕ) (call : PathCount) (cost most : ℕ)
     (course : CallsCourse p counts s gs limits program own calls start job call) (paid : cost_with p call ≤ cost) (long : stretch_with p call ≤ most) (script : Script) where
   abbrev OneJob : Weave → Type 0
   OneJob w = IsWeave p passes w × JobRun s gs limits program own calls start job (dids_of w)

@@ -21,7 +21,7 @@ use Rattle.prem_sets_sound.specs.StubLaws.StubFits.Within.{codes_in}
 use Rattle.prem_sets_sound.specs.TaskLaws.TaskFrame.Kept.{KeepsTaskRules}
 use Rattle.prem_sets_sound.specs.TaskLaws.TaskFrame.Frames.{task_guard, job_frame}
 use Rattle.prem_sets_sound.specs.TaskLaws.TaskBytes.Parts.{IsPlacedTask}
-use Rattle.prem_sets_sound.specs.Each.Called.{job_calls}
+use Rattle.prem_sets_sound.specs.TaskRuns.Called.{job_calls}
 use Rattle.prem_wcet_laws.specs.Scopes.{fact_of, lines_in, charge}
 use Rattle.prem_wcet_laws.specs.Wcet.{known_scene, start_span}
 use Rattle.prem_wcet_laws.specs.Divided.{RunDivides}

@@ -14,7 +14,7 @@ use Rattle.prem_tasks.specs.Broken.{TaskSet}
 use Rattle.prem_tasks.specs.At.{placed_by, broken_at, compiled_at, AreLawfulFor}
 use Rattle.prem_sets_sound.specs.StubLaws.Own.Owned.{own_of, setup_of}
 use Rattle.prem_sets_sound.specs.StubLaws.Initial.Initial.{content_of}
-use Rattle.prem_sets_sound.specs.Accepted.Accepted.{HasValues, IsLaidOut, limits_at}
+use Rattle.prem_sets_sound.specs.ImagePremises.Accepted.{HasValues, IsLaidOut, limits_at}
 use Rattle.prem_sets_sound.specs.Meant.{AreMeant}
 use Rattle.prem_sets_sound.specs.PlacesSound.At.{promises_at}
 use Rattle.prem_sound.specs.Limits.{jobs_limit}

@@ -18,9 +18,9 @@ use Rattle.prem_sets_sound.specs.StubLaws.Initial.Initial.{content_of}
 use Rattle.prem_sets_sound.specs.TaskLaws.TaskFrame.Kept.{KeepsTaskRules}
 use Rattle.prem_sets_sound.specs.TaskLaws.TaskFrame.Limits.{task_limits}
 use Rattle.prem_sets_sound.specs.TaskLaws.TaskBytes.Parts.{IsPlacedTask}
-use Rattle.prem_sets_sound.specs.Each.Joins.{promise_for}
+use Rattle.prem_sets_sound.specs.TaskRuns.Joins.{promise_for}
 use Rattle.prem_sets_sound.specs.StubLaws.Charges.Charges.{script_of, TaskCharges}
-use Rattle.prem_sets_sound.specs.StubLaws.Join.Joined.{JobLimits}
+use Rattle.prem_sets_sound.specs.StubLaws.JoinedRuns.Joined.{JobLimits}
 use Rattle.prem_sets_sound.specs.Weave.Weave.{dids_of}
 use Rattle.prem_wcet_laws.specs.Wcet.{known_scene, wcet_of, stretch_within}
 use Rattle.prem_wcet_laws.specs.Opens.{shortened}

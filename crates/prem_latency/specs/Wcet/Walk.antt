@@ -13,7 +13,7 @@ use Rattle.prem_code_laws.specs.ExprLaws.Relation.{Globals}
 use Rattle.prem_sound.specs.Script.Script.{Script}
 use Rattle.prem_sets_sound.specs.Weave.Weave.{Weave, dids_of}
 use Rattle.prem_sets_sound.specs.StubLaws.JobWeave.Jobs.{JobRun, JobsAlong}
-use Rattle.prem_wcet_laws.specs.Counts.{Count}
+use Rattle.prem_wcet_laws.specs.Counts.{PathCount}
 use Rattle.prem_wcet_laws.specs.Divided.{Courses, KeepsTo, StaysOn, scope_charge}
 use Rattle.prem_wcet_laws.specs.PartedLaws.{is_marked}
 use Rattle.prem_latency.specs.Wcet.Openings.{counts_of}
@@ -24,15 +24,15 @@ use Rattle.prem_asm.specs.Steps.{AllSteps}
 use Rattle.prem_wcet_laws.specs.Starts.{start_steps}
 
 -- one switch, the jump to `job`, its call, and the job's end
-abbrev pub cost_with : Plant → Count → ℕ
+abbrev pub cost_with : Plant → PathCount → ℕ
 cost_with p call = p.switch + (jump_weight (job_weight p) + job_weight p PmDone + call.total)
 
 -- and the greatest stretch
-abbrev pub stretch_with : Plant → Count → ℕ
+abbrev pub stretch_with : Plant → PathCount → ℕ
 stretch_with p call = greatest (chained (taking (jump_weight (job_weight p))) (chained call.sums (taking (job_weight p PmDone))))
 
 -- each call of `job` is such a course
-abbrev pub CallsCourse : Plant → (counts : List Did → ℕ) → Setting → Globals → Limits → Resolved → TaskRun → Calls → (start job : ℕ) → Count → Type 0
+abbrev pub CallsCourse : Plant → (counts : List Did → ℕ) → Setting → Globals → Limits → Resolved → TaskRun → Calls → (start job : ℕ) → PathCount → Type 0
 CallsCourse p counts s gs limits program own calls start job call =
     (steps : List Did) (r : JobRun s gs limits program own calls start job steps) → Courses p (is_marked (is_marked_call p counts)) call r.trace
 
@@ -40,7 +40,7 @@ CallsCourse p counts s gs limits program own calls start job call =
 abbrev pub JobsGoByCourses : Type 0
 JobsGoByCourses =
     (p : Plant) (passes : ℕ → ℕ) (script : Script) (counts : List Did → ℕ) (s : Setting) (gs : Globals) (limits : Limits) (program : Resolved)
-    (own : TaskRun) (calls : Calls) (start job : ℕ) (weave : Weave) (call : Count) (cost most : ℕ) →
+    (own : TaskRun) (calls : Calls) (start job : ℕ) (weave : Weave) (call : PathCount) (cost most : ℕ) →
     JobsAlong p passes s gs limits program own calls start job weave → CallsCourse p counts s gs limits program own calls start job call → cost_with p call ≤ cost → stretch_with p call ≤ most →
     StateWithin script 0 (counts_of counts weave) → JobStrand p script cost most 0 (dids_of weave)
 

@@ -7,7 +7,7 @@ use prem_plant::TaskId;
 
 /// Why a run halts that looks out for words that may come to a task.
 #[derive(Clone, Copy, PartialEq, Eq, Debug)]
-pub enum Halt {
+pub enum DeliveryHalt {
     /// It stops, or has come to the limit.
     Stops(Stop),
     /// The coming cycle issues a `pm.in` of this task, whose input words are used up.
@@ -30,7 +30,7 @@ impl<P: Policy> Machine<P> {
     /// many transfers have ended, such a `pm.in` comes. It takes no memory.
     ///
     /// Conditions: the limit hasn't passed, and is at most 2^61.
-    pub fn run_to_delivery(&mut self, limit: u64, transfers: usize) -> Halt
+    pub fn run_to_delivery(&mut self, limit: u64, transfers: usize) -> DeliveryHalt
         requires now { (state_of self.old).now ≤ limit }
         requires limit { limit ≤ 2 ^ 61 }
         ensures runs { RunsSilently limit transfers self.old self.new }
@@ -38,16 +38,16 @@ impl<P: Policy> Machine<P> {
     {
         'cycles: loop {
             if let Some(stop) = self.stop(limit) {
-                return Halt::Stops(stop);
+                return DeliveryHalt::Stops(stop);
             }
             if self.ended_so_far() >= transfers {
-                return Halt::Ended;
+                return DeliveryHalt::Ended;
             }
             if self.glide(limit) {
                 continue;
             }
             if let Some(task) = self.lacking() {
-                return Halt::Wants(task);
+                return DeliveryHalt::Wants(task);
             }
             self.one_cycle();
         }

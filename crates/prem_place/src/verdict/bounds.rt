@@ -19,7 +19,7 @@ use std::alloc::{AllocError, Global};
 
 /// What is told of marked functions whose bounds aren't too large, and of each one whether its bound is.
 #[derive(Drop)]
-struct Facts {
+struct ToldIntervals {
     facts: Vec<IntervalFact>,
     large: Vec<bool>,
 }
@@ -50,7 +50,7 @@ fn facts_of(
     t: &PlacedTask,
     lines: &[Lines],
     p: &Plant,
-) -> Result<Facts, AllocError>
+) -> Result<ToldIntervals, AllocError>
     requires task { IsPlacedTask p.now t.now }
     requires lines { lines.now ≡ lines_of p.now t.now }
     requires plant { IsPlant p.now }
@@ -65,7 +65,7 @@ fn facts_of(
         let found = fact(task, k, &plans[k], &lines[k], &stubs, &t.table, p);
         put_fact(&mut facts, &mut large, found)?;
     }
-    Ok(Facts { facts, large })
+    Ok(ToldIntervals { facts, large })
 }
 
 /// What is told of a task, or the first function whose bound is too large.

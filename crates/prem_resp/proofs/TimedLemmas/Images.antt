@@ -7,9 +7,9 @@ use Rattle.prem_sound.specs.Script.Scripts.{Promise}
 use Rattle.prem_sound.specs.Script.Script.{Script}
 use Rattle.prem_sound.specs.Scopes.Charged.{Scoping, IsScoped, charges_by, IsCharged}
 use Rattle.prem_sound.specs.Sound.{AreInputs}
-use Rattle.prem_sets_sound.specs.StubLaws.Join.Joined.{JobLimits, IsJoined}
+use Rattle.prem_sets_sound.specs.StubLaws.JoinedRuns.Joined.{JobLimits, IsJoined}
 use Rattle.prem_sets_sound.specs.StubLaws.Charges.Charges.{TaskCharges}
-use Rattle.prem_sets_sound.proofs.StubLawsLemmas.JoinLemmas.Joined.{runs}
+use Rattle.prem_sets_sound.proofs.StubLawsLemmas.JoinedRunsLemmas.Joined.{runs}
 use Rattle.prem_sets_sound.proofs.StubLawsLemmas.ChargesLemmas.Images.{all_charged, are_scripts}
 use Rattle.prem_sets_sound.proofs.StubLawsLemmas.ChargesLemmas.Singles.{paced_tasks_are_charged}
 use Rattle.prem_resp.specs.declared.busy.load.Load.{Load}

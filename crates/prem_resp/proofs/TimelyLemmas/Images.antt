@@ -5,11 +5,11 @@ use Rattle.prem_layout.specs.Image.{task_record}
 use Rattle.prem_layout.specs.Placed.{Placed, placed_from}
 use Rattle.prem_sets_sound.specs.StubLaws.Own.Owned.{own_of, setup_of}
 use Rattle.prem_sets_sound.specs.StubLaws.Initial.Initial.{content_of}
-use Rattle.prem_sets_sound.specs.StubLaws.Join.Joined.{JobLimits}
+use Rattle.prem_sets_sound.specs.StubLaws.JoinedRuns.Joined.{JobLimits}
 use Rattle.prem_sets_sound.specs.TaskLaws.TaskFrame.Limits.{task_limits}
-use Rattle.prem_sets_sound.specs.Accepted.Accepted.{limits_at, no_limits}
-use Rattle.prem_sets_sound.specs.Each.Joins.{task_longest}
-use Rattle.prem_sets_sound.proofs.AcceptedLemmas.Whole.{laid_out_images_join}
+use Rattle.prem_sets_sound.specs.ImagePremises.Accepted.{limits_at, no_limits}
+use Rattle.prem_sets_sound.specs.TaskRuns.Joins.{task_longest}
+use Rattle.prem_sets_sound.proofs.ImagePremisesLemmas.Whole.{laid_out_images_join}
 use Rattle.prem_resp.specs.declared.busy.load.Load.{Load}
 use Rattle.prem_resp.specs.Busy.Busy.{no_load}
 use Rattle.prem_resp.specs.Timely.Timely.{load_of, loads_of, longest_at, LaidOutSetsMeetDeadlines}

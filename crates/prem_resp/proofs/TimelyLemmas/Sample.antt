@@ -8,8 +8,8 @@ use Rattle.prem_text.specs.Lexing.Literal.{literal_word}
 use Rattle.prem_ranges.specs.RangesKept.{first_range_breach, turn_bounds}
 use Rattle.prem_layout.specs.Stretch.Paths.{turning}
 use Rattle.prem_tasks.specs.Compiled.{placed_in, compiled}
-use Rattle.prem_sets_sound.specs.Accepted.Accepted.{setup_in}
-use Rattle.prem_sets_sound.proofs.AcceptedLemmas.Sample.{sample, sample_values, sample_breaks_nothing}
+use Rattle.prem_sets_sound.specs.ImagePremises.Accepted.{setup_in}
+use Rattle.prem_sets_sound.proofs.ImagePremisesLemmas.Sample.{sample, sample_values, sample_breaks_nothing}
 use Rattle.prem_resp.specs.Deadline.Images.{MeetsDeadlines}
 use Rattle.prem_resp.specs.Timely.Timely.{loads_of}
 use Rattle.prem_resp.proofs.TimelyLemmas.Sets.{sets_meet_deadlines}

@@ -18,16 +18,16 @@ use Rattle.prem_layout.specs.Image.{task_record}
 use Rattle.prem_tasks.specs.Compiled.{coded_in, places_in}
 use Rattle.prem_sets_sound.specs.StubLaws.Own.Owned.{own_of, setup_of}
 use Rattle.prem_sets_sound.specs.StubLaws.Initial.Initial.{content_of}
-use Rattle.prem_sets_sound.specs.StubLaws.Join.Joined.{JobLimits}
+use Rattle.prem_sets_sound.specs.StubLaws.JoinedRuns.Joined.{JobLimits}
 use Rattle.prem_sets_sound.specs.TaskLaws.TaskFrame.Limits.{task_limits}
 use Rattle.prem_sets_sound.specs.TaskLaws.TaskBytes.Parts.{IsPlacedTask}
-use Rattle.prem_sets_sound.specs.Each.Joins.{TaskPaces, task_longest}
-use Rattle.prem_sets_sound.specs.Accepted.Accepted.{HasCodedValues, IsLaidOut, limits_at, no_limits}
+use Rattle.prem_sets_sound.specs.TaskRuns.Joins.{TaskPaces, task_longest}
+use Rattle.prem_sets_sound.specs.ImagePremises.Accepted.{HasCodedValues, IsLaidOut, limits_at, no_limits}
 use Rattle.prem_sets_sound.specs.Meant.{promises_in, AreMeant}
-use Rattle.prem_sets_sound.proofs.EachLemmas.Each.{tasks_pace}
-use Rattle.prem_sets_sound.proofs.EachLemmas.Words.{all_there}
-use Rattle.prem_sets_sound.proofs.AcceptedLemmas.Records.{have_code}
-use Rattle.prem_sets_sound.proofs.AcceptedLemmas.Whole.{accepted_sets_are_laid_out, default_places_are_lawful}
+use Rattle.prem_sets_sound.proofs.TaskRunsLemmas.Each.{tasks_pace}
+use Rattle.prem_sets_sound.proofs.TaskRunsLemmas.Words.{all_there}
+use Rattle.prem_sets_sound.proofs.ImagePremisesLemmas.Records.{have_code}
+use Rattle.prem_sets_sound.proofs.ImagePremisesLemmas.Whole.{accepted_sets_are_laid_out, default_places_are_lawful}
 use Rattle.prem_sets_sound.proofs.Sound.{task_there, there, accepted_tasks_are_meant, as_stubs_make}
 use Rattle.prem_resp.specs.Timely.Timely.{EachPaces, longest_at, SetsMeetDeadlines}
 use Rattle.prem_resp.proofs.TimelyLemmas.Images.{laid_out_sets_meet_deadlines}

@@ -7,9 +7,9 @@ use Rattle.prem_cycle.specs.State.{Setup, record_of}
 use Rattle.prem_sound.specs.Script.Scripts.{Promise}
 use Rattle.prem_sound.specs.Resident.Faultless.{IsPolicy}
 use Rattle.prem_sound.specs.Sound.{AreInputs}
-use Rattle.prem_sets_sound.specs.StubLaws.Join.Joined.{JobLimits, IsJoined}
+use Rattle.prem_sets_sound.specs.StubLaws.JoinedRuns.Joined.{JobLimits, IsJoined}
 use Rattle.prem_sets_sound.specs.StubLaws.Charges.Charges.{TaskCharges}
-use Rattle.prem_sets_sound.specs.Each.Joins.{TaskPaces}
+use Rattle.prem_sets_sound.specs.TaskRuns.Joins.{TaskPaces}
 use Rattle.prem_resp.specs.declared.busy.load.Load.{Load}
 use Rattle.prem_resp.specs.Busy.Busy.{load_at}
 use Rattle.prem_resp.specs.Deadline.Images.{MeetsDeadlines, KeepsIntervals}

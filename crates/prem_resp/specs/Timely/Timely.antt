@@ -17,8 +17,8 @@ use Rattle.prem_tasks.specs.Broken.{TaskSet, broken}
 use Rattle.prem_tasks.specs.Compiled.{placed_in, compiled}
 use Rattle.prem_sets_sound.specs.StubLaws.Own.Owned.{own_of, setup_of}
 use Rattle.prem_sets_sound.specs.StubLaws.Initial.Initial.{content_of}
-use Rattle.prem_sets_sound.specs.Each.Joins.{TaskPaces, task_longest}
-use Rattle.prem_sets_sound.specs.Accepted.Accepted.{HasValues, IsLaidOut, limits_at, setup_in}
+use Rattle.prem_sets_sound.specs.TaskRuns.Joins.{TaskPaces, task_longest}
+use Rattle.prem_sets_sound.specs.ImagePremises.Accepted.{HasValues, IsLaidOut, limits_at, setup_in}
 use Rattle.prem_resp.specs.declared.busy.load.Load.{Load}
 use Rattle.prem_resp.specs.Deadline.Images.{MeetsDeadlines}
 

@@ -16,9 +16,9 @@ use Rattle.prem_text.specs.Lexing.Literal.{literal_word}
 use Rattle.prem_ranges.specs.RangesKept.{first_range_breach}
 use Rattle.prem_tasks.specs.Broken.{TaskText, TaskSet, broken}
 use Rattle.prem_tasks.specs.Compiled.{compiled}
-use Rattle.prem_sets_sound.specs.Accepted.Accepted.{HasTextValues, HasValues, setup_in}
+use Rattle.prem_sets_sound.specs.ImagePremises.Accepted.{HasTextValues, HasValues, setup_in}
 use Rattle.prem_sets_sound.specs.Meant.{promises_in}
-use Rattle.prem_sets_sound.proofs.AcceptedLemmas.Sample.{one_name, net_is, net}
+use Rattle.prem_sets_sound.proofs.ImagePremisesLemmas.Sample.{one_name, net_is, net}
 use Rattle.prem_set.specs.Run.Run.{Gathered, inputs_of, request_words, request_of, in_words, req_words, line_read, lines_read, run_of as lines_of_run}
 use Rattle.prem_exec.specs.Exec.{stop_at}
 use Rattle.prem_exec.specs.Sources.Sources.{names_of}

@@ -3,7 +3,7 @@ use Rattle.std.proofs.Common.{ap, ◌∙◌}
 use Rattle.prem_lru.specs.Rules.{rule_of}
 use Rattle.prem_cycle.specs.Inputs.{FitsRun}
 use Rattle.prem_tasks.specs.Compiled.{compiled}
-use Rattle.prem_sets_sound.specs.Accepted.Accepted.{setup_in}
+use Rattle.prem_sets_sound.specs.ImagePremises.Accepted.{setup_in}
 use Rattle.prem_sets_sound.specs.Meant.{promises_in}
 use Rattle.prem_sets_sound.specs.Sound.{IsSoundSet}
 use Rattle.prem_sets_sound.proofs.Sound.{sets_are_sound}

@@ -3,7 +3,7 @@ use Rattle.std.specs.Prelude.{◌≡◌, ℕ, ◌++◌, List, None, Ok}
 use Rattle.prem_line.specs.Lines.{lines_of}
 use Rattle.prem_tasks.specs.Broken.{TaskSet, broken}
 use Rattle.prem_tasks.specs.Compiled.{compiled}
-use Rattle.prem_sets_sound.specs.Accepted.Accepted.{HasValues}
+use Rattle.prem_sets_sound.specs.ImagePremises.Accepted.{HasValues}
 use Rattle.prem_set.specs.Run.Run.{Gathered, with_words, run_of as lines_of_run}
 use Rattle.prem_set.specs.Run.Text.{lists_text, run_text}
 use Rattle.prem_set.specs.Run.ReadBack.{other_lines}

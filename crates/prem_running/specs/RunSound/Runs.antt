@@ -14,7 +14,7 @@ use Rattle.prem_sound.specs.Good.{Good}
 use Rattle.prem_sound.specs.Sound.{AreInputs, Sound}
 use Rattle.prem_tasks.specs.Broken.{TaskSet, broken}
 use Rattle.prem_tasks.specs.Compiled.{compiled}
-use Rattle.prem_sets_sound.specs.Accepted.Accepted.{HasValues, setup_in}
+use Rattle.prem_sets_sound.specs.ImagePremises.Accepted.{HasValues, setup_in}
 use Rattle.prem_sets_sound.specs.Meant.{promises_in}
 use Rattle.prem_set.specs.Run.Run.{Gathered, run_of as lines_of_run}
 use Rattle.prem_report.specs.Fitting.Named.{names_for}

@@ -14,14 +14,14 @@ use Rattle.prem_sound.specs.Sound.{AreInputs}
 use Rattle.prem_sound.proofs.ResidentLemmas.Policies.{kind_policy}
 use Rattle.prem_tasks.specs.Compiled.{coded_in}
 use Rattle.prem_tasks.specs.At.{placed_by}
-use Rattle.prem_sets_sound.specs.StubLaws.Join.Joined.{JobLimits, IsJoined}
+use Rattle.prem_sets_sound.specs.StubLaws.JoinedRuns.Joined.{JobLimits, IsJoined}
 use Rattle.prem_sets_sound.specs.StubLaws.Charges.Charges.{TaskCharges}
 use Rattle.prem_sets_sound.specs.PlacesSound.At.{promises_at}
-use Rattle.prem_sets_sound.proofs.StubLawsLemmas.JoinLemmas.Joined.{runs}
+use Rattle.prem_sets_sound.proofs.StubLawsLemmas.JoinedRunsLemmas.Joined.{runs}
 use Rattle.prem_sets_sound.proofs.StubLawsLemmas.ChargesLemmas.Images.{all_charged, are_scripts}
 use Rattle.prem_sets_sound.proofs.Sound.{as_stubs_make, meant_tasks_join}
 use Rattle.prem_sets_sound.proofs.PlacesSoundLemmas.At.{groups, laid_out, tasks_are_meant}
-use Rattle.prem_sets_sound.proofs.AcceptedLemmas.Whole.{laid_out_images_join}
+use Rattle.prem_sets_sound.proofs.ImagePremisesLemmas.Whole.{laid_out_images_join}
 use Rattle.prem_resp.specs.declared.busy.load.Load.{Load}
 use Rattle.prem_resp.specs.Busy.Busy.{load_at}
 use Rattle.prem_resp.specs.Timed.Timed.{TellsCharges}

@@ -1,5 +1,5 @@
 use Rattle.prem_tasks.specs.SetOf.{set_of}
-use Rattle.prem_sets_sound.proofs.AcceptedLemmas.Whole.{lawful_sets_have_values}
+use Rattle.prem_sets_sound.proofs.ImagePremisesLemmas.Whole.{lawful_sets_have_values}
 use Rattle.prem_sets_sound.proofs.PlacesSoundLemmas.At.{sets_are_sound_at}
 use Rattle.prem_compile.proofs.compiler.compile_at.Goals as goal
 

@@ -11,30 +11,30 @@ use Rattle.prem_pair_top.specs.Stages.{judged_reply}
 use Rattle.prem_pair_top.proofs.CompiledSets.{asks_nothing, both_told, compiled_counts_due, refused_on}
 use Rattle.prem_pair_top.proofs.answer.sets_answer.Goals as goal
 
-pub told-requires-clause-one : goal.told-requires-clause-one
-told-requires-clause-one c = let x = c.args.sets.now in input_fits (set_of x.one.now) c.in-Ok.one x.input.now c.in-Ok.ensures c.requires.one
+pub told_answer-requires-clause-one : goal.told_answer-requires-clause-one
+told_answer-requires-clause-one c = let x = c.args.sets.now in input_fits (set_of x.one.now) c.in-Ok.one x.input.now c.in-Ok.ensures c.requires.one
 
-pub told-requires-clause-two : goal.told-requires-clause-two
-told-requires-clause-two c = let x = c.args.sets.now in input_fits (set_of x.two.now) c.in-Ok-compile.two x.other.now c.in-Ok-compile.ensures c.requires.two
+pub told_answer-requires-clause-two : goal.told_answer-requires-clause-two
+told_answer-requires-clause-two c = let x = c.args.sets.now in input_fits (set_of x.two.now) c.in-Ok-compile.two x.other.now c.in-Ok-compile.ensures c.requires.two
 
-pub told-requires-clause-none : goal.told-requires-clause-none
-told-requires-clause-none c =
+pub told_answer-requires-clause-none : goal.told_answer-requires-clause-none
+told_answer-requires-clause-none c =
     let x = c.args.sets.now in
     asks_nothing (set_of x.two.now) c.in-Ok-compile.two x.other.now c.in-Ok-compile.ensures c.requires.two c.requires.none
 
-pub told-requires-clause-due : goal.told-requires-clause-due
-told-requires-clause-due c = compiled_counts_due (set_of c.args.sets.now.one.now) c.in-Ok.one c.in-Ok.ensures
+pub told_answer-requires-clause-due : goal.told_answer-requires-clause-due
+told_answer-requires-clause-due c = compiled_counts_due (set_of c.args.sets.now.one.now) c.in-Ok.one c.in-Ok.ensures
 
-pub told-requires-clause-other_due : goal.told-requires-clause-other_due
-told-requires-clause-other_due c = compiled_counts_due (set_of c.args.sets.now.two.now) c.in-Ok-compile.two c.in-Ok-compile.ensures
+pub told_answer-requires-clause-other_due : goal.told_answer-requires-clause-other_due
+told_answer-requires-clause-other_due c = compiled_counts_due (set_of c.args.sets.now.two.now) c.in-Ok-compile.two c.in-Ok-compile.ensures
 
 pub returns-in-Ok-compile-clause-answer : goal.returns-in-Ok-compile-clause-answer
 returns-in-Ok-compile-clause-answer c =
     let x = c.args.sets.now in
     ap Ok
     (both_told (pair_asked c.args.asked.now) (set_of x.one.now) (set_of x.two.now) (input_of x.input.now) (input_of x.other.now)
-    c.in-Ok.one c.in-Ok-compile.two (reply_of c.in_ok-told-in-Ok-compile.field-0)
-    c.in-Ok.ensures c.in-Ok-compile.ensures c.in_ok-told-in-Ok-compile.ensures)
+    c.in-Ok.one c.in-Ok-compile.two (reply_of c.in_ok-told_answer-in-Ok-compile.field-0)
+    c.in-Ok.ensures c.in-Ok-compile.ensures c.in_ok-told_answer-in-Ok-compile.ensures)
 
 pub returns-in-Err-clause-answer : goal.returns-in-Err-clause-answer
 returns-in-Err-clause-answer c =

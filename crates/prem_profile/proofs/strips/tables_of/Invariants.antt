@@ -5,4 +5,4 @@ use Rattle.prem_profile.proofs.strips.tables_of.Given as goal
 
 -- what is there, and what is left
 abbrev pub invariant-tasks : goal.invariant-tasks
-invariant-tasks l = map lines_told l.all.items ++ tables_from l.target (drop l.n l.tasks) (drop l.n l.programs) ≡ tables_from l.target l.tasks l.programs
+invariant-tasks l = map lines_told l.all.items ++ tables_from l.target (drop l.n l.tasks) (drop l.n l.coded) ≡ tables_from l.target l.tasks l.coded

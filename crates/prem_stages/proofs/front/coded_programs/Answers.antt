@@ -19,7 +19,7 @@ code_all-requires-clause-few c =
 
 pub returns-in_err-bounded : goal.returns-in_err-bounded
 returns-in_err-bounded c =
-    let p = err_from_is_err_and c.from_residual-in_err-bounded.result c.from_residual-in_err-bounded.ensures.1 in
+    let p = err_from_is_err_and c.from_residual.result c.from_residual.ensures.1 in
     let set = set_of c.args.set.now in
     rw (p.1, p.2) (at_ranges set c.in_err-bounded.field-0.0 c.args.programs.now c.requires c.in_err-bounded.ensures.ends)
 

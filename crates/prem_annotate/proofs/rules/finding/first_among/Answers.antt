@@ -1,4 +1,4 @@
-use Rattle.prem_annotate.proofs.Prelude.{plain_routine, found_of, outlook_with, slot_of, row_of, with_arguments, routine_with, unwatched_site, argument_of, Slot, Argument, in_routine}
+use Rattle.prem_annotate.proofs.Prelude.{plain_routine, found_of, outlook_with, slot_of, row_of, with_arguments, routine_with, unwatched_site, argument_of, ParameterRange, Argument, in_routine}
 use Rattle.prem_annotate.proofs.Prelude.{first_of, unlimited, global_of, routines_of, ◌≡◌, List, ap, ◌∙◌, ◌<◌, length, arith, map, refl, Global, Vec}
 use Rattle.prem_annotate.proofs.Outlooks.{row_there, ranged_there}
 use Rattle.prem_annotate.proofs.RulesLemmas.Found.{none_found, found_next, same_got}
@@ -50,10 +50,10 @@ loop-n-preserved c =
     record {
       found = found_next gs rs routines l.n two_r l.rows.items c.add_all.new.rows.items two_row c.in_ok-found.found (found_of l.first) (found_of c.in_ok-own.own) (found_of c.earlier-first.result)
           (omega arith) l.invariant.within (omega (arith, long, l.invariant.within)) c.index-routines-n-in-loop-n.is c.index-in-loop-n.ensures l.invariant.found
-          (c.in_ok-found.ensures ∙ ap (λ (row : List Slot). outlook_with (map slot_of row) (plain_routine two_r)) c.deref-in-loop-n.ensures.value)
+          (c.in_ok-found.ensures ∙ ap (λ (row : List ParameterRange). outlook_with (map slot_of row) (plain_routine two_r)) c.deref-in-loop-n.ensures.value)
           (c.add_all.ensures ∙ ap (λ (as_ : List Argument). with_arguments (map argument_of as_) (map row_of l.rows.items)) c.deref-in-loop-n-2.ensures.value)
-          (c.in_ok-own.ensures ∙ ap (λ (row : List Slot). first_of (in_routine site (routine_with (map slot_of row) (plain_routine one_r)))) c.deref.ensures.value
-          ∙ ap (λ (row : Vec Slot Global). first_of (in_routine site (routine_with (row_of row) (plain_routine one_r)))) same_row
+          (c.in_ok-own.ensures ∙ ap (λ (row : List ParameterRange). first_of (in_routine site (routine_with (map slot_of row) (plain_routine one_r)))) c.deref.ensures.value
+          ∙ ap (λ (row : Vec ParameterRange Global). first_of (in_routine site (routine_with (row_of row) (plain_routine one_r)))) same_row
           ∙ ap (λ (r : Routine). first_of (in_routine site (routine_with (row_of two_row) (plain_routine r)))) same_r)
           c.earlier-first.ensures;
       within = omega (arith, l.invariant.within);

@@ -19,4 +19,4 @@ returns g c =
     let picture = image_chart (asked_in asked).chart compiled.image (input_of c.args.input.now) (promised set (asked_in asked).distances) (run_limit None compiled.limit) in
     let is = reply_same c.deref.result.now asked.distances.items c.devices.result.now set.devices c.items.result.now (items_of c.args.input.now.requests) picture
     c.deref.ensures.value c.devices.ensures.devices c.items.ensures in
-    subst (λ x. IfOk c.told.result (λ a. reply_of a ≡ x)) is c.told.ensures
+    subst (λ x. IfOk c.picture_answer.result (λ a. reply_of a ≡ x)) is c.picture_answer.ensures

@@ -1,7 +1,7 @@
 use Rattle.std.proofs.Common.{◌≡◌, ◌≤◌, ℕ, All, List, length, ap, sym, ◌∙◌, subst}
 use Rattle.prem_cycle.specs.FactsOf.{Report}
 use Rattle.prem_machine.specs.Deliveries.{HaltsBy, RunsSilently}
-use Rattle.prem_machine.specs.declared.machine.deliveries.Halt.TheVariants.{Wants}
+use Rattle.prem_machine.specs.declared.machine.deliveries.DeliveryHalt.TheVariants.{Wants}
 use Rattle.prem_mail.specs.Gliding.{GoesBy, TellsNext, awaited, machine_in}
 use Rattle.prem_mail.specs.Mailing.{Mailing}
 use Rattle.prem_mail.proofs.Gliding.{glides, wants_there}

@@ -8,8 +8,8 @@ use Rattle.prem_prefetch.proofs.SizesLemmas.StackBound.{stack_within}
 use Rattle.prem_prefetch.proofs.parts.stack.stack_size.Goals as goal
 
 -- at most the frames of `job` and of 256 functions
-pub overflow_add : goal.overflow_add
-overflow_add c =
+pub overflow_add-result : goal.overflow_add-result
+overflow_add-result c =
     let r = c.args.r.now in
     let facts = c.requires.facts in
     let known : List ℕ = (known_of r).depths in
