@@ -35,9 +35,6 @@ pub record AreBoundsAt (set : TaskSet) (places : List Extent) (all : List TaskBo
   pub lawful : unbounded_at set places ≡ None
   pub told : map bounds_of all ≡ told_from set.plant 0 (placed_by set places)
 
-abbrev pub EndsBoundsAt : TaskSet → List Extent → Result (Vec TaskBounds Global) Stop → Type 0
-EndsBoundsAt set places result = MatchResult result (λ all. AreBoundsAt set places all.items) (λ stop. Stops stop (unbounded_at set places))
-
 -- of a set that breaks none of these rules
 pub record AreBounds (set : TaskSet) (all : List TaskBounds) : Type 0 where
   pub lawful : unbounded set ≡ None

@@ -5,7 +5,7 @@ mod places;
 mod refusals;
 
 pub use blocks::blocks_of;
-pub use late::{bounds_of_placed, rules_of_placed};
+pub use late::{bounds_of_placed, last_refusal, rules_of_placed};
 pub use places::places_of;
 pub use prem_place::content::Block;
 pub use prem_place::placed::PlacedTask;

@@ -5,7 +5,8 @@ ghost use Rattle.prem_plant.specs.Ranges.{IsPlant};
 ghost use Rattle.prem_layout.specs.Rules.{refused_by, over_tasks, conflict_rules, bound_rules, length_rules, log_rules};
 ghost use Rattle.prem_place.specs.Placed.PlacedOf.{IsPlacedTask, coded_of, lines_of, placed_of};
 ghost use Rattle.prem_place.specs.Verdict.Told.{bounds_of, told_from};
-ghost use Rattle.prem_compile.specs.PlacedStages.Late.{EndsLate, broken_behind};
+ghost use Rattle.prem_tasks.specs.Broken.{late_refusal};
+ghost use Rattle.prem_compile.specs.PlacedStages.Late.{EndsLate, broken_behind, broken_last, found_of};
 ghost use Rattle.prem_compile.specs.Bounding.{broken_up_to_bounds};
 
 use crate::placed_stages::refusals::{blamed, refused_whole};
@@ -16,8 +17,8 @@ use prem_place::verdict::{
     TaskBounds, VerdictFail, bounds_of_all, first_conflict, first_short_interval, footprints_of_all,
 };
 use prem_plant::Plant;
-use prem_tasks::{Rule, Stop};
-use std::alloc::Global;
+use prem_tasks::{Refusal, Rule, Stop};
+use std::alloc::{AllocError, Global};
 
 /// No set of the cache is asked for more lines of a marked function than it has ways.
 fn conflicts(
@@ -107,6 +108,42 @@ pub fn bounds_of_placed(
     Ok(all)
 }
 
+/// Each marked function states at least its bound, and the logs have room.
+fn last_rules(
+    alloc: Global,
+    tasks: &[PlacedTask],
+    bounds: &[TaskBounds],
+    plant: &Plant,
+) -> Result<(), Stop>
+    requires tasks { AllByRecursion (IsPlacedTask plant.now) tasks.now }
+    requires count { length tasks.now ≤ 16 }
+    requires bounds { map bounds_of bounds.now ≡ told_from plant.now 0 (map placed_of tasks.now) }
+    ensures { EndsLate result (broken_last plant.now (map coded_of tasks.now) (map placed_of tasks.now)) }
+{
+    lengths(alloc, tasks, bounds, plant)?;
+    logs(alloc, tasks)?;
+    Ok(())
+}
+
+/// The first rule on lengths, and then on logs, that placed tasks with these bounds break, if they break one. It fails only for want of memory.
+pub fn last_refusal(
+    alloc: Global,
+    tasks: &[PlacedTask],
+    bounds: &[TaskBounds],
+    plant: &Plant,
+) -> Result<Option<Box<Refusal>>, AllocError>
+    requires tasks { AllByRecursion (IsPlacedTask plant.now) tasks.now }
+    requires count { length tasks.now ≤ 16 }
+    requires bounds { map bounds_of bounds.now ≡ told_from plant.now 0 (map placed_of tasks.now) }
+    ensures { IfOk result (λ found. found_of found ≡ late_refusal (broken_last plant.now (map coded_of tasks.now) (map placed_of tasks.now))) }
+{
+    match last_rules(alloc, tasks, bounds, plant) {
+        Ok(()) => Ok(None),
+        Err(Stop::Refused(refusal)) => Ok(Some(refusal)),
+        Err(Stop::OutOfMemory) => Err(AllocError),
+    }
+}
+
 /// What is told of the marked functions and jobs of placed tasks, or the first rule that they break: first those on
 /// conflicts, then those on bounds, on lengths, and on logs, each for all tasks before the next.
 pub fn rules_of_placed(
@@ -120,10 +157,7 @@ pub fn rules_of_placed(
     ensures ends { EndsLate result (broken_behind plant.now (map coded_of tasks.now) (map placed_of tasks.now)) }
     ensures told { IfOk result (λ all. map bounds_of all.items ≡ told_from plant.now 0 (map placed_of tasks.now)) }
 {
-    let lines = footprints_of_all(alloc, tasks, plant)?;
-    conflicts(alloc, tasks, &lines, plant)?;
-    let all = bounds(alloc, tasks, &lines, plant)?;
-    lengths(alloc, tasks, &all, plant)?;
-    logs(alloc, tasks)?;
+    let all = bounds_of_placed(alloc, tasks, plant)?;
+    last_rules(alloc, tasks, &all, plant)?;
     Ok(all)
 }

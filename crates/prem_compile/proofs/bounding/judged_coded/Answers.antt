@@ -4,17 +4,17 @@ use Rattle.prem_plant.specs.declared.layout.PartSize.{PartSize}
 use Rattle.prem_plant.specs.Places.{ArePlaces, default_places}
 use Rattle.prem_layout.specs.Rules.{refused_by, memory_rules}
 use Rattle.prem_tasks.specs.SetOf.{set_of}
-use Rattle.prem_compile.proofs.BoundingStops.{bounds_default}
-use Rattle.prem_compile.proofs.bounding.bounds_of_coded.Goals as goal
+use Rattle.prem_compile.proofs.BoundingStops.{judged_default}
+use Rattle.prem_compile.proofs.bounding.judged_coded.Goals as goal
 
-pub bounds_in_layout-requires-clause-parts : goal.bounds_in_layout-requires-clause-parts
-bounds_in_layout-requires-clause-parts c = c.deref-3.ensures.value ∙ c.in_ok-parts.ensures.parts
+pub judged_in_layout-requires-clause-parts : goal.judged_in_layout-requires-clause-parts
+judged_in_layout-requires-clause-parts c = c.deref-3.ensures.value ∙ c.in_ok-parts.ensures.parts
 
-pub bounds_in_layout-requires-clause-few : goal.bounds_in_layout-requires-clause-few
-bounds_in_layout-requires-clause-few c = subst (λ (ps : List PartSize). length ps ≤ 100000) (sym c.deref-3.ensures.value) c.in_ok-parts.ensures.may.few
+pub judged_in_layout-requires-clause-few : goal.judged_in_layout-requires-clause-few
+judged_in_layout-requires-clause-few c = subst (λ (ps : List PartSize). length ps ≤ 100000) (sym c.deref-3.ensures.value) c.in_ok-parts.ensures.may.few
 
-pub bounds_in_layout-requires-clause-placed : goal.bounds_in_layout-requires-clause-placed
-bounds_in_layout-requires-clause-placed c =
+pub judged_in_layout-requires-clause-placed : goal.judged_in_layout-requires-clause-placed
+judged_in_layout-requires-clause-placed c =
     subst (λ (ps : List PartSize). ArePlaces (set_of c.args.set.now).plant.memory ps c.in_ok-layout.layout) (c.deref-2.ensures.value ∙ sym c.deref-3.ensures.value)
     (subst (λ (q : Plant). ArePlaces q.memory c.deref-2.result.now c.in_ok-layout.layout) c.plant-plant.ensures.plant c.in_ok-layout.ensures.lawful.placed)
 
@@ -25,5 +25,5 @@ returns c =
     let none : refused_by None (memory_rules set.plant (default_places c.in_ok-parts.parts.items)) ≡ None =
     ap (λ (ps : List PartSize). refused_by None (memory_rules set.plant (default_places ps))) (sym lent)
     ∙ ap (λ (q : Plant). refused_by None (memory_rules q (default_places c.deref-2.result.now))) (sym c.plant-plant.ensures.plant) ∙ c.in_ok-layout.ensures.ends in
-    bounds_default set c.args.tasks.items c.in_ok-parts.parts.items c.in_ok-layout.layout c.bounds_in_layout.result c.requires
-    c.in_ok-parts.ensures.parts (c.in_ok-layout.ensures.places ∙ ap default_places lent) none c.bounds_in_layout.ensures
+    judged_default set c.args.tasks.items c.in_ok-parts.parts.items c.in_ok-layout.layout c.judged_in_layout.result c.requires
+    c.in_ok-parts.ensures.parts (c.in_ok-layout.ensures.places ∙ ap default_places lent) none c.judged_in_layout.ensures
