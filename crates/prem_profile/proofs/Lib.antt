@@ -13,3 +13,4 @@ pub mod Parted
 pub mod Summed
 pub mod Few
 pub mod Tool
+pub mod BoundLemmas

@@ -67,7 +67,7 @@ pub rows_long : (f : ℕ → Cost) (k n : ℕ) → length (each_row f k n) ≡ n
 rows_long f k zero = refl
 rows_long f k (suc n) = ap suc (rows_long f (suc k) n)
 
-sum_with : (xs : List Cost) (r : ℕ) (c : Cost) → r < length xs → costs_sum (with_cost xs r c) ≡ plus (costs_sum xs) c
+pub sum_with : (xs : List Cost) (r : ℕ) (c : Cost) → r < length xs → costs_sum (with_cost xs r c) ≡ plus (costs_sum xs) c
 sum_with [] r c lt = absurd (omega (arith, lt))
 sum_with (x ∷ xs) zero c lt =
     same_cost (plus (plus x c) (costs_sum xs)) (plus (plus x (costs_sum xs)) c) (omega arith) (omega arith) (omega arith) (omega arith)
@@ -75,7 +75,7 @@ sum_with (x ∷ xs) (suc r) c lt =
     ap (plus x) (sum_with xs r c (omega (arith, lt)))
     ∙ same_cost (plus x (plus (costs_sum xs) c)) (plus (plus x (costs_sum xs)) c) (omega arith) (omega arith) (omega arith) (omega arith)
 
-sum_none : (f : ℕ → Cost) (k n : ℕ) → ((i : ℕ) → f i ≡ no_cost) → costs_sum (each_row f k n) ≡ no_cost
+pub sum_none : (f : ℕ → Cost) (k n : ℕ) → ((i : ℕ) → f i ≡ no_cost) → costs_sum (each_row f k n) ≡ no_cost
 sum_none f k zero none = refl
 sum_none f k (suc n) none = ap₂ plus (none k) (sum_none f (suc k) n none) ∙ plus_none no_cost
 

@@ -12,3 +12,4 @@ pub mod Sets
 pub mod SetsTold
 pub mod Words
 pub mod Answer
+pub mod Bound

@@ -1,10 +1,12 @@
 //! Where the cycles of a run go, by lines of the sources, and the answer of the program `prem_profile` to its words.
 //!
 //! - `lines`: the line table: for each word of a task's code the line of the source to which it belongs.
+//! - `bound`: what the bound of a job is made of: its bill, item by item, on the path that counts most.
 #![tactic(auto)]
 
 mod account;
 mod answer;
+pub mod bound;
 mod callgrind;
 mod cost;
 mod home;

@@ -25,8 +25,8 @@ apart-by_parts-requires t c =
       (c.requires.scene, fits_one c.loop-n.place p (parts_of (drop (n + 1) ps)) (subst (FitsAt c.loop-n.place) d c.loop-n.invariant.fits)),
     )
 
-pub apart-behind-place-requires : goal.apart-behind-place-requires
-apart-behind-place-requires t c =
+pub apart-next_statement_place-place-requires : goal.apart-next_statement_place-place-requires
+apart-next_statement_place-place-requires t c =
     let ps = c.args.parts.now in
     let n = c.loop-n.n in
     let p = c.index-parts-n-in-loop-n.result in
@@ -45,12 +45,12 @@ apart-loop-n-preserved t c =
     record {
       rest =
           apart_step (scene_in c.args.scene.now)
-          c.loop-n.place c.loop-n.sum c.in_ok-whole.whole c.in_ok-divided.divided c.min.result c.plus-sum.result c.behind-place.result ps n
+          c.loop-n.place c.loop-n.sum c.in_ok-whole.whole c.in_ok-divided.divided c.min.result c.plus-sum.result c.next_statement_place-place.result ps n
           c.index-parts-n.result q
-          (omega (arith, c.loop-n-test.true)) c.index-parts-n.is c.index-parts-n-in-loop-n.is c.in_ok-whole.ensures c.in_ok-divided.ensures c.min.ensures c.plus-sum.ensures c.behind-place.ensures
+          (omega (arith, c.loop-n-test.true)) c.index-parts-n.is c.index-parts-n-in-loop-n.is c.in_ok-whole.ensures c.in_ok-divided.ensures c.min.ensures c.plus-sum.ensures c.next_statement_place-place.ensures
           ∙ c.loop-n.invariant.rest;
       small = omega (arith, c.plus-sum.ensures);
-      fits = subst (λ k. FitsAt k rest) (sym c.behind-place.ensures) (fits_behind c.loop-n.place q rest (subst (FitsAt c.loop-n.place) d c.loop-n.invariant.fits));
+      fits = subst (λ k. FitsAt k rest) (sym c.next_statement_place-place.ensures) (fits_behind c.loop-n.place q rest (subst (FitsAt c.loop-n.place) d c.loop-n.invariant.fits));
     }
 
 pub by_choice-first_place-requires : goal.by_choice-first_place-requires

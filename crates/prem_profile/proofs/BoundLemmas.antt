@@ -1,0 +1,9 @@
+pub mod Sums
+pub mod Charged
+pub mod Statements
+pub mod Passages
+pub mod Tasks
+pub mod Booked
+pub mod Profile
+mod Rows
+mod Words

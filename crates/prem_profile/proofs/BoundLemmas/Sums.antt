@@ -1,0 +1,188 @@
+-- The cycles on bills of pieces are the greatest weights over their paths.
+use Rattle.std.specs.Prelude.{nat_le, nat_lt}
+use Rattle.std.proofs.Common.{◌≡◌, ℕ, zero, suc, pos, ◌+◌, ◌*◌, ◌<◌, ◌≤◌, min, max, Bool, true, false, cond, List, [], ◌∷◌, ◌++◌, length, map, refl, ap, sym, ◌∙◌, arith}
+use Rattle.std.proofs.Math.Nat.{mul-add}
+use Rattle.std.proofs.lemmas.Bool.Decides.{nat_tests}
+use Rattle.prem_isa.specs.declared.instr.Instr.{Instr}
+use Rattle.prem_isa.specs.declared.instr.Instr.TheVariants.{Lui, Jal, OpImm}
+use Rattle.prem_isa.specs.declared.instr.AluOp.TheVariants.{Add}
+use Rattle.prem_asm.specs.Pieces.{Pieces, no_pieces, straight, address_of, either, repeat, call_to, branch_of, skip_words, skip_at, other_at, either_end, test_at, back_at, repeat_end}
+use Rattle.prem_layout.specs.Bounds.{part_weight, weight_at}
+use Rattle.prem_layout.specs.Parts.{code_part}
+use Rattle.prem_wcet_laws.specs.Scopes.{Fact, places_behind}
+use Rattle.prem_wcet_laws.specs.Weights.{PlaceWeight, weight_from, jump_from, weighted_from}
+use Rattle.prem_profile.specs.Bound.Bills.{Item, Bill, bill_times, cheaper, cycles_on, dearer}
+use Rattle.prem_profile.specs.Bound.Pieces.{PlaceCost, bill_at, bill_from, item, jump_item, part_bill, straight_bill}
+use Rattle.prem_profile.specs.Bound.Scopes.{bills_behind}
+
+-- ---- numbers
+
+pub same_then : (a b c : ℕ) → a + (b + c) ≡ a + b + c
+same_then a b c = omega arith
+
+is_less : (m n : ℕ) → nat_lt m n ≡ true → m < n
+is_less m n e = grind (arith, nat_tests)
+
+is_more : (m n : ℕ) → nat_lt m n ≡ false → n ≤ m
+is_more m n e = grind (arith, nat_tests)
+
+is_most : (m n : ℕ) → nat_le m n ≡ true → m ≤ n
+is_most m n e = grind (arith, nat_tests)
+
+is_above : (m n : ℕ) → nat_le m n ≡ false → n < m
+is_above m n e = grind (arith, nat_tests)
+
+-- ---- bills that come to so many cycles
+
+pub record Comes (bill : Bill) (n : ℕ) : Type 0 where
+  pub is : cycles_on bill ≡ n
+
+pub recount : {a : Bill} {m : ℕ} (n : ℕ) → Comes a m → m ≡ n → Comes a n
+recount n c e = record { is = c.is ∙ e }
+
+pub none : Comes [] 0
+none = record { is = refl }
+
+pub led : {b : Bill} {n : ℕ} (x : Item) (m : ℕ) → x.cost.cycles ≡ m → Comes b n → Comes (x ∷ b) (m + n)
+led x m e c = record { is = λ i. e i + c.is i }
+
+on_append : (a b : Bill) → cycles_on (a ++ b) ≡ cycles_on a + cycles_on b
+on_append [] b = omega arith
+on_append (x ∷ a) b = ap (λ n. x.cost.cycles + n) (on_append a b) ∙ same_then x.cost.cycles (cycles_on a) (cycles_on b)
+
+pub both : {a b : Bill} {m n : ℕ} → Comes a m → Comes b n → Comes (a ++ b) (m + n)
+both {a} {b} c d = record { is = on_append a b ∙ (λ i. c.is i + d.is i) }
+
+pub three : {a b c : Bill} {k m n : ℕ} → Comes a k → Comes b m → Comes c n → Comes (a ++ (b ++ c)) (k + m + n)
+three {a} {b} {c} {k} {m} {n} x y z = recount (k + m + n) (both x (both y z)) (same_then k m n)
+
+on_times : (n : ℕ) (a : Bill) → cycles_on (bill_times n a) ≡ n * cycles_on a
+on_times n [] = omega arith
+on_times n (x ∷ a) = ap (λ k. n * x.cost.cycles + k) (on_times n a) ∙ sym (mul-add n x.cost.cycles (cycles_on a))
+
+pub times : {a : Bill} {m : ℕ} (n : ℕ) → Comes a m → Comes (bill_times n a) (n * m)
+times {a} n c = record { is = on_times n a ∙ ap (λ k. n * k) c.is }
+
+on_dearer : (a b : Bill) → cycles_on (dearer a b) ≡ max (cycles_on a) (cycles_on b)
+on_dearer a b = by (nat_lt (cycles_on a) (cycles_on b)) refl where
+  second : (m n : ℕ) → m < n → n ≡ max m n
+  second m n lt = omega (arith, lt)
+
+  first : (m n : ℕ) → n ≤ m → m ≡ max m n
+  first m n le = omega (arith, le)
+
+  by : (t : Bool) → nat_lt (cycles_on a) (cycles_on b) ≡ t → cycles_on (cond t b a) ≡ max (cycles_on a) (cycles_on b)
+  by true e = second (cycles_on a) (cycles_on b) (is_less (cycles_on a) (cycles_on b) e)
+  by false e = first (cycles_on a) (cycles_on b) (is_more (cycles_on a) (cycles_on b) e)
+
+pub more : {a b : Bill} {m n : ℕ} → Comes a m → Comes b n → Comes (dearer a b) (max m n)
+more {a} {b} c d = record { is = on_dearer a b ∙ (λ i. max (c.is i) (d.is i)) }
+
+on_cheaper : (a b : Bill) → cycles_on (cheaper a b) ≡ min (cycles_on a) (cycles_on b)
+on_cheaper a b = by (nat_le (cycles_on a) (cycles_on b)) refl where
+  first : (m n : ℕ) → m ≤ n → m ≡ min m n
+  first m n le = omega (arith, le)
+
+  second : (m n : ℕ) → n < m → n ≡ min m n
+  second m n lt = omega (arith, lt)
+
+  by : (t : Bool) → nat_le (cycles_on a) (cycles_on b) ≡ t → cycles_on (cond t a b) ≡ min (cycles_on a) (cycles_on b)
+  by true e = first (cycles_on a) (cycles_on b) (is_most (cycles_on a) (cycles_on b) e)
+  by false e = second (cycles_on a) (cycles_on b) (is_above (cycles_on a) (cycles_on b) e)
+
+pub less : {a b : Bill} {m n : ℕ} → Comes a m → Comes b n → Comes (cheaper a b) (min m n)
+less {a} {b} c d = record { is = on_cheaper a b ∙ (λ i. min (c.is i) (d.is i)) }
+
+-- ---- pieces
+
+module _ (w : PlaceWeight) (c : PlaceCost) (same : (at : ℕ) (i : Instr) → (c at i).cycles ≡ w at i) where
+  straight_comes : (at : ℕ) (code : List Instr) → Comes (straight_bill c at code) (weight_from w at code)
+  straight_comes at [] = none
+  straight_comes at (i ∷ is) = led (item c at i) (w at i) (same at i) (straight_comes (at + 4) is)
+
+  jump_comes : {b : Bill} {n : ℕ} (at : ℕ) → Comes b n → Comes (jump_item c at ∷ b) (jump_from w at + n)
+  jump_comes at d = led (jump_item c at) (jump_from w at) (same at (Jal 0 (pos 0))) d
+
+  test_comes : {b : Bill} {n : ℕ} (at : ℕ) (i : Instr) → Comes b n → Comes (item c at i ∷ b) (w at i + n)
+  test_comes at i d = led (item c at i) (w at i) (same at i) d
+
+  last_jump : (at : ℕ) → Comes (jump_item c at ∷ []) (jump_from w at)
+  last_jump at = recount (jump_from w at) (jump_comes at none) (nothing (jump_from w at)) where
+    nothing : (n : ℕ) → n + 0 ≡ n
+    nothing n = omega arith
+
+  -- of a loop, with what its head and its body come to
+  turn_comes : {head body : Bill} {h b : ℕ} (at back : ℕ) (i : Instr) → Comes head h → Comes body b →
+      Comes (head ++ (item c at i ∷ (body ++ jump_item c back ∷ []))) (h + w at i + b + jump_from w back)
+  turn_comes {head} {body} {h} {b} at back i x y =
+      recount (h + w at i + b + jump_from w back) (both x (test_comes at i (both y (last_jump back)))) (sum h (w at i) b (jump_from w back)) where
+        sum : (h t b j : ℕ) → h + (t + (b + j)) ≡ h + t + b + j
+        sum h t b j = omega arith
+
+  out_comes : {head : Bill} {h : ℕ} (at out : ℕ) (i : Instr) → Comes head h → Comes (head ++ item c at i ∷ jump_item c out ∷ []) (h + w at i + jump_from w out)
+  out_comes {head} {h} at out i x = recount (h + w at i + jump_from w out) (both x (test_comes at i (last_jump out))) (same_then h (w at i) (jump_from w out))
+
+  module _ (bills : ℕ → Bill) (calls : ℕ → ℕ) (called : (part : ℕ) → Comes (bills part) (calls part)) where
+    pub pieces_come : (at : ℕ) (ps : Pieces) → Comes (bill_from c bills at ps) (weighted_from w calls at ps)
+    pieces_come at no_pieces = none
+    pieces_come at (straight code rest) = both (straight_comes at code) (pieces_come (at + 4 * length code) rest)
+    pieces_come at (address_of rd part more rest) =
+        recount (weighted_from w calls at (address_of rd part more rest))
+        (test_comes at (Lui 0 0) (test_comes (at + 4) (OpImm Add 0 0 (pos 0)) (pieces_come (at + 8) rest)))
+        (same_then (w at (Lui 0 0)) (w (at + 4) (OpImm Add 0 0 (pos 0))) (weighted_from w calls (at + 8) rest))
+    pieces_come at (either test taken other rest) =
+        let skips : ℕ = skip_words other in
+        let first : ℕ = weighted_from w calls (at + 8) taken + skips * jump_from w (skip_at at taken) in
+        let second : ℕ = jump_from w (at + 4) + weighted_from w calls (other_at at taken other) other in
+        recount (weighted_from w calls at (either test taken other rest))
+        (test_comes at (branch_of test)
+        (both (more (both (pieces_come (at + 8) taken) (times skips (last_jump (skip_at at taken)))) (jump_comes (at + 4) (pieces_come (other_at at taken other) other)))
+        (pieces_come (either_end at taken other) rest)))
+        (same_then (w at (branch_of test)) (max first second) (weighted_from w calls (either_end at taken other) rest))
+    pieces_come at (repeat turns head test body rest) =
+        let there : ℕ = test_at at head in
+        let back : ℕ = back_at at head body in
+        let top = pieces_come at head in
+        let turn = turn_comes there back (branch_of test) top (pieces_come (there + 8) body) in
+        let out = out_comes there (there + 4) (branch_of test) top in
+        three (times turns turn) out (pieces_come (repeat_end at head body) rest)
+    pieces_come at (call_to link part rest) =
+        recount (weighted_from w calls at (call_to link part rest)) (jump_comes at (both (called part) (pieces_come (at + 4) rest)))
+        (same_then (jump_from w at) (calls part) (weighted_from w calls (at + 4) rest))
+
+  -- ---- called parts
+
+  at_comes : (bills : List Bill) (n : ℕ) → Comes (bill_at bills n) (weight_at (map cycles_on bills) n)
+  at_comes [] zero = none
+  at_comes [] (suc n) = none
+  at_comes (b ∷ bills) zero = record { is = refl }
+  at_comes (b ∷ bills) (suc n) = at_comes bills n
+
+  pub part_comes : (functions : ℕ) (bills : List Bill) (known : List ℕ) → map cycles_on bills ≡ known → (part : ℕ) →
+      Comes (part_bill functions bills part) (part_weight functions (weight_at known) (λ k. 0) part)
+  part_comes functions bills known e zero = none
+  part_comes functions bills known e (suc n) = by (nat_lt n functions) where
+    by : (t : Bool) → Comes (cond t (bill_at bills n) []) (cond t (weight_at known n) 0)
+    by true = recount (weight_at known n) (at_comes bills n) (ap (λ ws. weight_at ws n) e)
+    by false = none
+
+  one_more : (bills : List Bill) (b : Bill) → map cycles_on (bills ++ b ∷ []) ≡ map cycles_on bills ++ cycles_on b ∷ []
+  one_more [] b = refl
+  one_more (x ∷ bills) b = ap (λ ns. cycles_on x ∷ ns) (one_more bills b)
+
+  as_long : (bills : List Bill) → length bills ≡ length (map cycles_on bills)
+  as_long [] = refl
+  as_long (b ∷ bills) = ap suc (as_long bills)
+
+  pub known_come : (functions : ℕ) (places : ℕ → ℕ) (bills : List Bill) (fs : List Fact) →
+      map cycles_on (bills_behind c functions places bills fs) ≡ places_behind w functions places (map cycles_on bills) fs
+  known_come functions places bills [] = refl
+  known_come functions places bills (f ∷ fs) =
+      let known : List ℕ = map cycles_on bills in
+      let at : ℕ = places (code_part (length bills)) in
+      let next : Bill = bill_from c (part_bill functions bills) at f.pieces in
+      let calls : ℕ → ℕ = part_weight functions (weight_at known) (λ k. 0) in
+      let comes = pieces_come (part_bill functions bills) calls (part_comes functions bills known refl) at f.pieces in
+      known_come functions places (bills ++ next ∷ []) fs
+      ∙ ap (λ ns. places_behind w functions places ns fs)
+      (one_more bills next ∙ ap (λ n. known ++ n ∷ []) (comes.is ∙ ap (λ n. weighted_from w calls (places (code_part n)) f.pieces) (as_long bills)))

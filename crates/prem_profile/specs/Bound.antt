@@ -1,0 +1,9 @@
+pub mod Bills
+pub mod Pieces
+pub mod Scopes
+pub mod Statements
+pub mod Passages
+pub mod Tasks
+pub mod Laws
+pub mod Booked
+pub mod Profile
