@@ -8,7 +8,7 @@
     crates.py modules [--fix] which lines of docs/ARCHITECTURE.md on crates and modules aren't the first paragraph of their sources, which
                               of these modules are gone, and the crates that have no line; with --fix the lines are written anew
     crates.py preludes NAME.. has the files of these crates name what they cite of other crates through their own specs/Prelude and
-                              proofs/Prelude, as far as that makes them shorter, and drops what no file names any more
+                              proofs/Prelude, as far as that makes them shorter, but for operators, and drops what no file names any more
     crates.py programs        what a program of the list tools/programs lacks: its crates, its script, its stored run, its place in the
                               documents, or one of its commands in completions and manual; and scripts that the list lacks
 """
@@ -238,7 +238,17 @@ def told_apart(path, prelude, known):
     return kept, at, {it: found[it] for it in sorted(found)}
 
 
-def is_foreign(module, crate, folder):
+def unfoldable_in(module):
+    """The names that a module of this repository lets others unfold: no more than these can be handed on so."""
+    crate, _, path = module.removeprefix("Rattle.").partition(".")
+    text = read(f"crates/{crate}/{path.replace('.', '/')}.antt")
+    return None if text is None else set(re.findall(r"^ *unfoldable (?:pub )?(\S+) :", text, re.M))
+
+
+def is_foreign(module, names, crate, folder):
+    """Whether a file has these names of a module by the prelude. Operators come from the library itself, and what else the file names there."""
+    if module.startswith("Rattle.std.") and any("◌" in it for it in names):
+        return False
     own = f"Rattle.{crate}."
     if module.startswith(own):
         return folder == "proofs" and module.startswith(own + "specs.") and module != own + "specs.Prelude"
@@ -257,7 +267,7 @@ def prelude_of(crate, folder):
                 files[f"{at}/{name}"] = kept, _, found = told_apart(f"{at}/{name}", prelude, known)
                 opened |= {word for it in kept if "unfolding" in it for word in re.findall(r"[^\s(),]+", it.split("unfolding")[1])}
                 for module in found:
-                    if is_foreign(module, crate, folder):
+                    if is_foreign(module, found[module], crate, folder):
                         modules[module] += 1
                         uses.update((it.split(" as ")[0], module) for it in found[module])
     best, told, shorter = {}, collections.defaultdict(set), {}
@@ -265,7 +275,7 @@ def prelude_of(crate, folder):
         if modules[module] > 1:
             best.setdefault(name, module)
     for path, (kept, at, found) in files.items():
-        rest = {it: [name for name in found[it] if not is_foreign(it, crate, folder) or best.get(name.split(" as ")[0]) != it] for it in found}
+        rest = {it: [name for name in found[it] if not is_foreign(it, found[it], crate, folder) or best.get(name.split(" as ")[0]) != it] for it in found}
         shared = [(it, name) for it in found for name in found[it] if name not in rest[it]]
         plain = [line for it in found for line in imports(f"use {it}", found[it])]
         joined = imports(f"use {prelude}", [name for _, name in shared]) + [line for it in rest for line in imports(f"use {it}", rest[it])]
@@ -276,7 +286,8 @@ def prelude_of(crate, folder):
         files[path] = kept, at, plain
     lines = [f"-- What the files of this crate's {folder} name of other modules, so that each imports it from one place."]
     for module in sorted(told):
-        unfolded = told[module] & opened
+        marked = unfoldable_in(module)
+        unfolded = told[module] & opened if marked is None else told[module] & opened & marked
         lines += imports(f"pub use {module}", sorted(told[module] - unfolded)) + imports(f"unfoldable pub use {module}", sorted(unfolded))
     is_worth = len(lines) < sum(len(files[it][2]) - len(shorter[it]) for it in shorter)
     for path, (kept, at, plain) in files.items():

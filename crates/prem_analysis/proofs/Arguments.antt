@@ -1,7 +1,7 @@
 -- Arguments, one after the other.
+use Rattle.std.proofs.Common.{◌≡◌, ℕ, zero, suc, ◌+◌, ◌<◌, ◌≤◌, List, [], ◌∷◌, ◌++◌, map, drop, length, get_or, Option, refl, ap, sym, ◌∙◌, arith}
 use Rattle.prem_analysis.proofs.Prelude.{in_given, items_of, first_assoc, first_of_append, Environment, Site, in_term, in_arguments, parameters_of, RangeBreach, first, first_of, Term}
-use Rattle.prem_analysis.proofs.Prelude.{parameter_of, Param, Place, term_of, loops_of, routines_of, Routine as RoutineTree, ◌≡◌, ℕ, zero, suc, ◌+◌, ◌<◌, ◌≤◌, List, [], ◌∷◌, ◌++◌, map, drop}
-use Rattle.prem_analysis.proofs.Prelude.{length, get_or, Option, refl, ap, sym, ◌∙◌, arith, drop_more, option_map, slice_get}
+use Rattle.prem_analysis.proofs.Prelude.{parameter_of, Param, Place, term_of, loops_of, routines_of, Routine as RoutineTree, drop_more, option_map, slice_get}
 use Rattle.prem_tree.specs.declared.resolve.resolved.Term.{Term as TermTree}
 use Rattle.std.specs.Prelude.{Some, None}
 

@@ -1,15 +1,15 @@
 -- What is seen behind steps, from what is seen behind their parts.
+use Rattle.std.proofs.Common.{nat_lt, ◌≡◌, ℕ, ◌+◌, ◌*◌, ◌^◌, List, [], ◌∷◌, ◌++◌, Option, None, refl, ap, sym, ◌∙◌, drop, length, get_or, ◌<◌, arith, Bool, true, false, zero, suc, map}
+use Rattle.std.proofs.Common.{subst}
 use Rattle.prem_analysis.proofs.Prelude.{capped, at_term, at_counting, at_while, bound_of, behind_routine, plain_before, plain, plain_list, Seen, noted, behind, looked, first_none}
 use Rattle.prem_analysis.proofs.Prelude.{first_assoc, first_of_append, loop_end, in_counting, in_body, in_while, after, bounds, stated_or_whole, known_parameter, known_local, declared}
 use Rattle.prem_analysis.proofs.Prelude.{at_body, Environment, Site, in_term, in_range_of_int, in_turns, in_counting_loop, in_steps, in_locals, in_result, refined, RangeBreach, first}
 use Rattle.prem_analysis.proofs.Prelude.{first_of, Ranged, next_ranged, promoted, Term, Steps, Done, If, For, While, LocalVariable, parameter_of, local_of, Local, Param, Place, term_of}
-use Rattle.prem_analysis.proofs.Prelude.{Step, IsRange, ◌≡◌, ℕ, ◌+◌, ◌*◌, ◌^◌, List, [], ◌∷◌, ◌++◌, Option, None, refl, ap, sym, ◌∙◌, drop, length, get_or, ◌<◌, arith, Bool, true, false}
-use Rattle.prem_analysis.proofs.Prelude.{zero, suc, map, subst, append-nil, append_assoc, drop_more, ℤ}
+use Rattle.prem_analysis.proofs.Prelude.{Step, IsRange, append-nil, append_assoc, drop_more, ℤ}
 use Rattle.prem_analysis.proofs.RangingLemmas.Sequences.{after-step, bounds-step, first-step}
 use Rattle.prem_ranges.proofs.Capped.{capped as capped_same, in_steps-sized}
 use Rattle.prem_syntax.specs.Resolved.{Routine}
 use Rattle.prem_tree.specs.declared.resolve.resolved.Term.{Term as TermTree}
-use Rattle.std.proofs.Common.{nat_lt}
 
 abbrev pub seen : List ℕ → Option RangeBreach → Seen
 seen bs o = record { bounds = bs; found = o }

@@ -1,8 +1,8 @@
 -- A well-formed program has few functions and globals, so the numbers that its first breach names are small.
+use Rattle.std.proofs.Common.{◌≡◌, ℕ, suc, ◌+◌, ◌≤◌, Bool, true, false, List, [], ◌∷◌, ◌++◌, length, refl, ap, sym, ◌∙◌, arith, Option, None, Some, subst}
 use Rattle.prem_analysis.proofs.Prelude.{Named, is_none_tells, well_formed_is_typed, range_breaches, RangeRule, LoopBound, TooLarge, ZeroDivisor, IndexOutside, RegionOutside, ArgRange}
 use Rattle.prem_analysis.proofs.Prelude.{RangeBreach, first_of, resolved, first_range_breach, ProgramHasWords, first_breach, IsWellFormed, loops_within, functions_of, globals_of}
-use Rattle.prem_analysis.proofs.Prelude.{resolve_items, unlimited, GlobalVariable, FunctionText, global_item, function_item, ProgramText, ◌≡◌, ℕ, suc, ◌+◌, ◌≤◌, Bool, true, false, List, []}
-use Rattle.prem_analysis.proofs.Prelude.{◌∷◌, ◌++◌, length, refl, ap, sym, ◌∙◌, arith, Option, None, Some, subst, nat_tests, list_any, nat_lt, not}
+use Rattle.prem_analysis.proofs.Prelude.{resolve_items, unlimited, GlobalVariable, FunctionText, global_item, function_item, ProgramText, nat_tests, list_any, nat_lt, not}
 use Rattle.prem_analysis.proofs.Naming.{NamedIf, program_named}
 use Rattle.prem_ranges.proofs.Basics.{none_left, none_right}
 use Rattle.prem_ranges.proofs.Named.{none_broken}

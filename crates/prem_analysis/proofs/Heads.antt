@@ -1,7 +1,8 @@
 -- The head of a counting loop, from what its calls give.
+use Rattle.std.proofs.Common.{◌≡◌, ℕ, Bool, List, Option, ap, sym, ◌∙◌}
 use Rattle.prem_analysis.proofs.Prelude.{capped, at_term, at_counting, bound_of, Seen, noted, counted, end_of, turn_bound, loop_end, in_counting, body_range, range_behind, in_body}
 use Rattle.prem_analysis.proofs.Prelude.{behind_loop, with_range, Environment, at_local, Site, in_term, in_counting_loop, range_of, RangeBreach, first_of, Saved, saved_few, Term, Steps}
-use Rattle.prem_analysis.proofs.Prelude.{Place, Span, ◌≡◌, ℕ, Bool, List, Option, ap, sym, ◌∙◌, ℤ}
+use Rattle.prem_analysis.proofs.Prelude.{Place, Span, ℤ}
 
 -- the numbers of a loop's head are the defined ones
 pub record Head (env : Environment) (k : ℕ) (low : Term) (closed : Bool) (high : Term) (step : ℕ) (body : Steps) (around : ℕ) (known : Environment)

@@ -1,8 +1,8 @@
 -- What is known behind `if`s and loops that are walked over in place.
+use Rattle.std.proofs.Common.{◌≡◌, ℕ, Bool, true, false, eqb, List, [], ◌∷◌, ◌++◌, length, refl, ap, sym, ◌∙◌, zero, suc}
 use Rattle.prem_analysis.proofs.Prelude.{plain, targets, env_of, Known as KnownTree, HasNamed, HasAssigned, restored_few, differs_at, differs_where, differs_after, back_from_taken}
 use Rattle.prem_analysis.proofs.Prelude.{merged_arms, among, among-append, in_counting, in_while, loop_end, body_range, range_behind, in_body, behind_loop, after, with_range, Environment}
-use Rattle.prem_analysis.proofs.Prelude.{at_local, range_of, refined, named, few_or_all, Saved, saved, saved_few, restored, merged, Term, Done, If, For, While, Place, Step, Span, ◌≡◌, ℕ}
-use Rattle.prem_analysis.proofs.Prelude.{Bool, true, false, eqb, List, [], ◌∷◌, ◌++◌, length, refl, ap, sym, ◌∙◌, zero, suc, or_parts}
+use Rattle.prem_analysis.proofs.Prelude.{at_local, range_of, refined, named, few_or_all, Saved, saved, saved_few, restored, merged, Term, Done, If, For, While, Place, Step, Span, or_parts}
 use Rattle.prem_analysis.proofs.RangingLemmas.Targeted.{has_targets}
 
 -- ---- locals that differ

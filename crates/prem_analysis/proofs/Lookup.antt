@@ -1,5 +1,6 @@
 -- What is found in a list by its number.
-use Rattle.prem_analysis.proofs.Prelude.{◌≡◌, ℕ, zero, suc, ◌≤◌, List, [], ◌∷◌, length, refl, arith, Some, None, slice_get, slice_index}
+use Rattle.std.proofs.Common.{◌≡◌, ℕ, zero, suc, ◌≤◌, List, [], ◌∷◌, length, refl, arith, Some, None}
+use Rattle.prem_analysis.proofs.Prelude.{slice_get, slice_index}
 
 pub got_none : {A : Type 0} (l : List A) (i : ℕ) → length l ≤ i → slice_get l i ≡ None
 got_none [] i past = refl

@@ -1,4 +1,6 @@
 -- Breaches of the rules on ranges name functions and globals that are there, and stated ranges that hold a number.
+use Rattle.std.proofs.Common.{◌≡◌, ℕ, suc, ◌+◌, ◌*◌, ◌^◌, ◌<◌, ◌≤◌, Bool, true, false, cond, List, [], ◌∷◌, ◌++◌, length, map, refl, ap, sym, arith, Option, None, Some}
+use Rattle.std.specs.Prelude.{ℤ, pos, ◌+ℤ◌, ◌-ℤ◌, int_lt, ⊤, not, nat_lt, slice_get}
 use Rattle.prem_analysis.proofs.Prelude.{Named, loop_end, turn_bound, in_counting, in_body, behind_loop, in_while, behind_call, stated_or_whole, known_parameter, known_local, after, at_body}
 use Rattle.prem_analysis.proofs.Prelude.{any_again, assigned, Environment, at_local, joined as joined_env, Site, length_of, in_watch, in_watches, in_index, in_scalar, in_element, in_divisor}
 use Rattle.prem_analysis.proofs.Prelude.{in_term, in_stated, in_argument, in_arguments, parameters_of, in_turns, in_range_of_int, in_counting_loop, in_steps, in_locals, in_result}
@@ -6,8 +8,7 @@ use Rattle.prem_analysis.proofs.Prelude.{in_routine, in_routines, range_breaches
 use Rattle.prem_analysis.proofs.Prelude.{comes_before, first, first_of, if_at, Watch, areas_hold, watch_if, watches_from, kinds_of, HasGlobal, Typed, AllTyped, TypedSteps, TypedLocals}
 use Rattle.prem_analysis.proofs.Prelude.{TypedResult, Ranged, none_ranged, next_ranged, TypedRoutine, TypedProgram, promoted, Term, Constant, Scalar, Element, Unary, Binary, AndAlso, OrElse}
 use Rattle.prem_analysis.proofs.Prelude.{Steps, Done, If, For, While, Resolved, Parameter, LocalVariable, MarkText, GlobalVariable, Place, Span, from_to, exactly, holds, IsRange, encloses}
-use Rattle.prem_analysis.proofs.Prelude.{converted, BinOp, Div, Rem, Kind, ◌≡◌, ℕ, suc, ◌+◌, ◌*◌, ◌^◌, ◌<◌, ◌≤◌, Bool, true, false, cond, List, [], ◌∷◌, ◌++◌, length, map, refl, ap, sym}
-use Rattle.prem_analysis.proofs.Prelude.{arith, Option, None, Some, ℤ, pos, ◌+ℤ◌, ◌-ℤ◌, int_lt, ⊤, not, nat_lt, slice_get}
+use Rattle.prem_analysis.proofs.Prelude.{converted, BinOp, Div, Rem, Kind}
 use Rattle.prem_ranges.specs.Environment.{Known}
 use Rattle.prem_ranges.specs.RangeBreaches.{site_of}
 use Rattle.prem_syntax.specs.Resolved.{Local, SetLocal, SetScalar, SetElement, Output, Input, Call, Routine}

@@ -57,8 +57,7 @@ pub use Rattle.prem_word.specs.declared.kind.BinOp.{BinOp}
 pub use Rattle.prem_word.specs.declared.kind.BinOp.TheVariants.{Div, Rem}
 pub use Rattle.prem_word.specs.declared.kind.Kind.{Kind}
 pub use Rattle.prem_word.specs.declared.kind.Kind.TheVariants.{Int, Unsigned}
-pub use Rattle.std.proofs.Common.{Bool, Err, IfOk, List, None, Ok, Option, Result, Some, [], ap, arith, cond, drop, eqb, false, flat_map, get_or, length, map, of_z, refl, set, subst, suc}
-pub use Rattle.std.proofs.Common.{sym, to_z, true, zero, ℕ, ◌*◌, ◌++◌, ◌+◌, ◌<◌, ◌^◌, ◌||◌, ◌∙◌, ◌∷◌, ◌≡◌, ◌≤◌}
+pub use Rattle.std.proofs.Common.{List, None, [], ap, arith, drop, eqb, map, of_z, refl, sym, to_z, ℕ, ◌∙◌}
 pub use Rattle.std.proofs.lemmas.Bool.{and_parts, or_parts}
 pub use Rattle.std.proofs.lemmas.Bool.Decides.{nat_tests}
 pub use Rattle.std.proofs.lemmas.Int.{clamps, ints}
@@ -67,4 +66,4 @@ pub use Rattle.std.specs.Borrow.{Bor}
 pub use Rattle.std.specs.Int.{int_max, w64}
 pub use Rattle.std.specs.List.{list_any, range_with_len}
 pub use Rattle.std.specs.Option.{option_map}
-pub use Rattle.std.specs.Prelude.{All, IsTrue, int_le, int_lt, is_none, nat_lt, negsuc, not, pos, slice_get, slice_index, ℤ, ⊤, ◌+ℤ◌, ◌-ℤ◌, ◌≤ℤ◌}
+pub use Rattle.std.specs.Prelude.{All, IsTrue, is_none, nat_lt, not, slice_get, slice_index, ℤ}

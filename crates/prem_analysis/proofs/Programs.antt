@@ -1,9 +1,9 @@
 -- What is seen of all functions is what the rules on ranges say of the program.
+use Rattle.std.proofs.Common.{◌≡◌, ℕ, zero, suc, ◌+◌, ◌<◌, List, [], ◌∷◌, ◌++◌, map, length, refl, ap, sym, ◌∙◌, arith, None, Some, subst}
 use Rattle.prem_analysis.proofs.Prelude.{AllRanged, site_at, plain_routine, behind_routine, behind_routines, AreWatched, Seen, Marked, items_of, first_none, first_assoc, first_of_append}
 use Rattle.prem_analysis.proofs.Prelude.{well_formed_is_typed, known_parameter, bounds_in, range_breaches, Site, in_routine, in_routines, first, first_of, first_range_breach, turn_bounds}
 use Rattle.prem_analysis.proofs.Prelude.{Watch, Ranged, AlikeRoutine, alike_done, ProgramHasWords, IsWellFormed, Resolved, unlimited, FunctionText, ProgramText, function_of, loops_of}
-use Rattle.prem_analysis.proofs.Prelude.{routine_of, routines_of, IsResolved, resolved_of, Routine as RoutineTree, ◌≡◌, ℕ, zero, suc, ◌+◌, ◌<◌, List, [], ◌∷◌, ◌++◌, map, length, refl, ap}
-use Rattle.prem_analysis.proofs.Prelude.{sym, ◌∙◌, arith, None, Some, subst, append-nil, append_assoc, slice_get}
+use Rattle.prem_analysis.proofs.Prelude.{routine_of, routines_of, IsResolved, resolved_of, Routine as RoutineTree, append-nil, append_assoc, slice_get}
 use Rattle.prem_analysis.proofs.Behind.{seen, same_seen}
 use Rattle.prem_analysis.proofs.RangingLemmas.PlainSteps.{plain-alike}
 use Rattle.prem_ranges.proofs.Alike.{SameSite, in_routine-alike, bounds_in-alike}

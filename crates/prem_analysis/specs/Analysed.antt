@@ -1,5 +1,6 @@
 -- What an analysed program stands for.
-use Rattle.prem_analysis.specs.Prelude.{limits_of, AreWords, source_within, source, ProgramText, program_of, checked_program, Checked, ◌≡◌, ℕ, List, Ok}
+use Rattle.std.specs.Prelude.{◌≡◌, ℕ, List, Ok}
+use Rattle.prem_analysis.specs.Prelude.{limits_of, AreWords, source_within, source, ProgramText, program_of, checked_program, Checked}
 use Rattle.prem_analysis.specs.declared.analysed.Analysed.{Analysed}
 use Rattle.prem_syntax.specs.Statements.{ProgramState}
 

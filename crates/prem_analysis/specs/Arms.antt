@@ -1,6 +1,7 @@
 -- What the walk does with each kind of step, part by part.
+use Rattle.std.specs.Prelude.{ℕ, ◌+◌, ◌*◌, ◌^◌, min, ℤ, Bool, List, [], Option, None, Some}
 use Rattle.prem_analysis.specs.Prelude.{turn_bound, loop_end, in_counting, in_while, Environment, Site, in_argument, in_term, in_turns, in_counting_loop, RangeBreach, first_of, Term, Steps}
-use Rattle.prem_analysis.specs.Prelude.{Parameter, ℕ, ◌+◌, ◌*◌, ◌^◌, min, ℤ, Bool, List, [], Option, None, Some}
+use Rattle.prem_analysis.specs.Prelude.{Parameter}
 use Rattle.prem_analysis.specs.Seen.{Seen, noted, counted}
 use Rattle.prem_ranges.specs.RangeOf.{range_of}
 use Rattle.prem_syntax.specs.declared.tree.Place.{Place}

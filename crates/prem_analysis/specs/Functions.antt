@@ -1,6 +1,7 @@
 -- What is seen of functions.
+use Rattle.std.specs.Prelude.{◌≡◌, ℕ, ◌+◌, List, [], ◌∷◌, ◌++◌, map, slice_get, Some}
 use Rattle.prem_analysis.specs.Prelude.{items_of, bounds_in, known_parameter, Site, in_routine, first, first_of, Ranged, Routine, unlimited, global_of, function_of, term_of, routines_of}
-use Rattle.prem_analysis.specs.Prelude.{option_map, ◌≡◌, ℕ, ◌+◌, List, [], ◌∷◌, ◌++◌, map, slice_get, Some}
+use Rattle.prem_analysis.specs.Prelude.{option_map}
 use Rattle.prem_analysis.specs.Ranging.Plain.{plain}
 use Rattle.prem_analysis.specs.Ranging.SiteOf.{watches_at}
 use Rattle.prem_analysis.specs.Seen.{Seen}

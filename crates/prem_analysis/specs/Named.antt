@@ -1,5 +1,6 @@
 -- The numbers and ranges that breaches of the rules on ranges name.
-use Rattle.prem_analysis.specs.Prelude.{RangeRule, RegionOutside, ArgRange, ℕ, ◌<◌, ⊤, ◌≤ℤ◌}
+use Rattle.std.specs.Prelude.{ℕ, ◌<◌, ⊤, ◌≤ℤ◌}
+use Rattle.prem_analysis.specs.Prelude.{RangeRule, RegionOutside, ArgRange}
 
 -- functions and globals below these counts, and stated ranges that hold a number
 abbrev pub Named : ℕ → ℕ → RangeRule → Type 0

@@ -20,4 +20,4 @@ pub use Rattle.prem_tree.specs.declared.resolve.resolved.Step.{Row_of-Step, Step
 pub use Rattle.prem_tree.specs.declared.resolve.resolved.Step.TheVariants.{Block', Call, For', If', Input, Output, SetElement, SetLocal, SetScalar, While'}
 pub use Rattle.prem_word.specs.Ranges.{Span, from_to, span_of}
 pub use Rattle.std.specs.Option.{option_map}
-pub use Rattle.std.specs.Prelude.{All, Bool, Err, List, None, Ok, Option, Result, Some, Vec, [], false, length, map, min, slice_get, true, ℕ, ℤ, ⊤, ◌*◌, ◌++◌, ◌+◌, ◌<◌, ◌^◌, ◌∷◌, ◌≡◌, ◌≤ℤ◌}
+pub use Rattle.std.specs.Prelude.{List, Option, map}

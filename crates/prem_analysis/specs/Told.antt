@@ -1,6 +1,7 @@
 -- What is told of the first broken rule on ranges.
+use Rattle.std.specs.Prelude.{◌≡◌, ◌<◌, ◌^◌, ℕ, All, List, Option, None, Some, Result, Ok, Err, Vec}
 use Rattle.prem_analysis.specs.Prelude.{RangeRule, LoopBound, TooLarge, ZeroDivisor, IndexOutside, RegionOutside, ArgRange, RangeBreach, first_range_breach, turn_bounds, StaysInRange}
-use Rattle.prem_analysis.specs.Prelude.{ProgramText, program_of, checked_program, Checked, span_of, option_map, ◌≡◌, ◌<◌, ◌^◌, ℕ, All, List, Option, None, Some, Result, Ok, Err, Vec}
+use Rattle.prem_analysis.specs.Prelude.{ProgramText, program_of, checked_program, Checked, span_of, option_map}
 use Rattle.prem_analysis.specs.Analysed.{analysed_checked}
 use Rattle.prem_analysis.specs.declared.analysed.Analysed.{Analysed}
 use Rattle.prem_analysis.specs.declared.fail.RangeFail.{RangeFail}

@@ -1,6 +1,7 @@
 -- That the literals of a program are words can be true in one way only.
+use Rattle.std.specs.Prelude.{List, [], ◌∷◌, Option, None, Some}
 use Rattle.prem_analysis.specs.Prelude.{Expression, literal, variable, element, unary, binary, Statement, block, if_then, if_else, bounded_while, counting_for, assign, output, input, call}
-use Rattle.prem_analysis.specs.Prelude.{Statements, no_statements, next_statement, LocalVariable, global_item, function_item, ProgramText, List, [], ◌∷◌, Option, None, Some}
+use Rattle.prem_analysis.specs.Prelude.{Statements, no_statements, next_statement, LocalVariable, global_item, function_item, ProgramText}
 use Rattle.prem_syntax.specs.Literals.{HasWords, HasWordsIf, HaveWords, StatementHasWords, StatementsHaveWords, LocalsHaveWords, ProgramHasWords}
 use Rattle.std.specs.Coded.{le_prop}
 use mathlib.Core.HLevel.{×_prop, Unit-prop}

@@ -1,8 +1,8 @@
 -- An arm of the walk, a loop's head and a function, from what their calls give.
+use Rattle.std.proofs.Common.{◌≡◌, ℕ, ◌+◌, ◌<◌, Bool, true, false, List, [], ◌∷◌, ◌++◌, length, map, drop, get_or, refl, ap, sym, ◌∙◌, subst}
 use Rattle.prem_annotate.proofs.Prelude.{plain, Sight, touched, passed, behind, begun, seen_with, touched_by, touched_in, touched_by_locals, touched_by_result, calls_in, loop_end}
 use Rattle.prem_annotate.proofs.Prelude.{in_counting, in_body, in_while, known_local, declared, after, Environment, refined, Term, Steps, Done, If, For, While, Routine, LocalVariable}
-use Rattle.prem_annotate.proofs.Prelude.{local_of, Local, Place, term_of, Step, ◌≡◌, ℕ, ◌+◌, ◌<◌, Bool, true, false, List, [], ◌∷◌, ◌++◌, length, map, drop, get_or, refl, ap, sym, ◌∙◌}
-use Rattle.prem_annotate.proofs.Prelude.{subst, append-nil, append_assoc, drop_more}
+use Rattle.prem_annotate.proofs.Prelude.{local_of, Local, Place, term_of, Step, append-nil, append_assoc, drop_more}
 use Rattle.prem_annotate.proofs.Sights.{sight, same_sight, touched_none, touched_more, passed-append}
 use Rattle.prem_tree.specs.declared.resolve.resolved.Term.{Term as TermTree}
 

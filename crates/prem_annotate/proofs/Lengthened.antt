@@ -1,6 +1,7 @@
 -- Annotations with greater lengths are those of the program with these lengths.
+use Rattle.std.proofs.Common.{◌≡◌, ℕ, ◌+◌, List, [], ◌∷◌, map, refl, arith, Option, None, Some}
 use Rattle.prem_annotate.proofs.Prelude.{notes, no_lengths, lengthened_mark, lengthened, LengthsArePut, ranges_of, annotated_mark, marked_routines, texts_of, regions_reached, resolved}
-use Rattle.prem_annotate.proofs.Prelude.{Routine, RegionText, MarkText, GlobalVariable, ◌≡◌, ℕ, ◌+◌, List, [], ◌∷◌, map, refl, arith, Option, None, Some, option_map, max}
+use Rattle.prem_annotate.proofs.Prelude.{Routine, RegionText, MarkText, GlobalVariable, option_map, max}
 use Rattle.prem_annotating.specs.Annotated.{all_ranged}
 
 greater_twice : (a b : ℕ) → max (max a 0) b ≡ max a b

@@ -1,9 +1,9 @@
 -- The annotations by what is found of functions are those of the annotated program.
+use Rattle.std.proofs.Common.{◌≡◌, ℕ, ◌+◌, ◌≤◌, List, [], ◌∷◌, ◌++◌, length, map, drop, refl, ap, sym, ◌∙◌, arith}
 use Rattle.prem_annotate.proofs.Prelude.{plain_routine, called, Notes, notes, no_lengths, mark_found, all_notes_found, resolved_notes, ranges_of, outlook_of, outlook, Outlook}
 use Rattle.prem_annotate.proofs.Prelude.{annotated_mark, marked_routines, texts_of, ranged_routine, ranged_routines, regions_reached, calls_of_all, items_of, alike_done, AlikeRoutine}
 use Rattle.prem_annotate.proofs.Prelude.{AlikeRoutines, no_routines, next_routine, callees_in, callee_table, Routine, unlimited, GlobalVariable, FunctionText, function_of, loops_of}
-use Rattle.prem_annotate.proofs.Prelude.{routine_of, routines_of, resolved_of, Resolved as ResolvedTree, ◌≡◌, ℕ, ◌+◌, ◌≤◌, List, [], ◌∷◌, ◌++◌, length, map, drop, refl, ap, sym, ◌∙◌, arith}
-use Rattle.prem_annotate.proofs.Prelude.{append-nil, drop_all, option_map, max}
+use Rattle.prem_annotate.proofs.Prelude.{routine_of, routines_of, resolved_of, Resolved as ResolvedTree, append-nil, drop_all, option_map, max}
 use Rattle.prem_analysis.proofs.MarksLemmas.CalledTrees.{tables_same}
 use Rattle.prem_analysis.proofs.RangingLemmas.PlainSteps.{plain-alike}
 use Rattle.prem_annotate.proofs.Reaching.{regions_are}

@@ -1,8 +1,9 @@
 -- What is found of functions, from the last to the first.
+use Rattle.std.proofs.Common.{◌≡◌, ℕ, zero, suc, ◌+◌, ◌<◌, ◌≤◌, drop, subst, List, [], ◌∷◌, ◌++◌, length, map, get_or, refl, ap, sym, ◌∙◌, arith, Some}
+use Rattle.std.specs.Prelude.{slice_get, ◌-◌, Vec}
 use Rattle.prem_annotate.proofs.Prelude.{plain_routine, AllRanged, outlook_of, outlook, outlook_with, Outlook, slot_of, row_of, with_arguments, with_slot, with_slots, empty_row, passed}
 use Rattle.prem_annotate.proofs.Prelude.{ParameterRange as SlotTree, with_parameters, ranged_routine, ranged_routines, calls_of, calls_of_all, known_parameter, Ranged, Routine, Parameter}
-use Rattle.prem_annotate.proofs.Prelude.{parameter_of, function_of, Param, ◌≡◌, ℕ, zero, suc, ◌+◌, ◌<◌, ◌≤◌, drop, subst, List, [], ◌∷◌, ◌++◌, length, map, get_or, refl, ap, sym, ◌∙◌, arith}
-use Rattle.prem_annotate.proofs.Prelude.{Some, append-nil, append_assoc, drop_more, drop_all, length-map, reverse-append, Global, slice_get, ◌-◌, Vec}
+use Rattle.prem_annotate.proofs.Prelude.{parameter_of, function_of, Param, append-nil, append_assoc, drop_more, drop_all, length-map, reverse-append, Global}
 use Rattle.prem_annotate.proofs.Sights.{passed-append}
 use Rattle.prem_annotate.proofs.Slots.{slots_in, slots_of, arguments_added, no_rows, row_at, slots_range, slots_long}
 use Rattle.prem_annotate.specs.Ranges.Slots.{ParameterRange}

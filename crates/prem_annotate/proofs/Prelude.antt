@@ -58,8 +58,7 @@ pub use Rattle.prem_word.specs.Ranges.{IsRange, Span, converted, encloses, exact
 pub use Rattle.prem_word.specs.declared.kind.BinOp.{BinOp}
 pub use Rattle.prem_word.specs.declared.kind.BinOp.TheVariants.{Div, Rem}
 pub use Rattle.prem_word.specs.declared.kind.Kind.{Kind}
-pub use Rattle.std.proofs.Common.{Bool, Err, List, None, Ok, Option, Result, Some, [], ap, arith, cond, drop, eqb, false, get_or, length, map, of_z, refl, set, subst, suc, sym, to_z, true}
-pub use Rattle.std.proofs.Common.{zero, ℕ, ◌*◌, ◌++◌, ◌+◌, ◌<◌, ◌^◌, ◌∙◌, ◌∷◌, ◌≡◌, ◌≤◌}
+pub use Rattle.std.proofs.Common.{List, None, Some, ap, arith, drop, map, refl, subst, sym, ◌∙◌}
 pub use Rattle.std.proofs.lemmas.Bool.Decides.{nat_tests}
 pub use Rattle.std.proofs.lemmas.Int.{clamps, ints}
 pub use Rattle.std.proofs.lemmas.List.{append-nil, append_assoc, drop_all, drop_more, length-map, reverse-append}
@@ -67,4 +66,4 @@ pub use Rattle.std.specs.Global.{Global}
 pub use Rattle.std.specs.Int.{w64}
 pub use Rattle.std.specs.List.{flat_map}
 pub use Rattle.std.specs.Option.{option_map}
-pub use Rattle.std.specs.Prelude.{Vec, int_lt, max, nat_lt, not, pos, slice_get, ℤ, ◌&&◌, ◌+ℤ◌, ◌-ℤ◌, ◌-◌, ◌==◌, ◌||◌}
+pub use Rattle.std.specs.Prelude.{Vec, max, pos}

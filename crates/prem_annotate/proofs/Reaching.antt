@@ -1,8 +1,9 @@
 -- Regions by what is found of functions are those that are reached.
+use Rattle.std.proofs.Common.{◌≡◌, ℕ, zero, suc, ◌+◌, ◌<◌, ◌≤◌, drop, Bool, true, false, cond, List, [], ◌∷◌, ◌++◌, length, map, refl, ap, sym, ◌∙◌, arith, Option, None}
+use Rattle.std.specs.Prelude.{◌==◌}
 use Rattle.prem_annotate.proofs.Prelude.{outlook, at_number, elements_of as elements_in_memory, widened, with_touch, with_touches, with_touches_if, with_members, regions_around, no_elements}
 use Rattle.prem_annotate.proofs.Prelude.{regions_found, join_all, elements_if, elements_in, regions_from, regions_reached, touches_of, GlobalAccess, is_in, callee_table, reach_set, Routine}
-use Rattle.prem_annotate.proofs.Prelude.{RegionText, GlobalVariable, Place, Span, ◌≡◌, ℕ, zero, suc, ◌+◌, ◌<◌, ◌≤◌, drop, Bool, true, false, cond, List, [], ◌∷◌, ◌++◌, length, map, refl, ap}
-use Rattle.prem_annotate.proofs.Prelude.{sym, ◌∙◌, arith, Option, None, nat_tests, append-nil, append_assoc, drop_all, flat_map, ◌==◌}
+use Rattle.prem_annotate.proofs.Prelude.{RegionText, GlobalVariable, Place, Span, nat_tests, append-nil, append_assoc, drop_all, flat_map}
 use Rattle.prem_analysis.specs.declared.ranging.range.Range.{Range}
 use Rattle.prem_annotating.specs.Reached.{elements_of, region_of}
 

@@ -1,9 +1,10 @@
 -- What is seen of expressions, and of steps one behind the other.
+use Rattle.std.proofs.Common.{◌≡◌, ℕ, ◌+◌, ◌<◌, ◌≤◌, Bool, true, false, List, [], ◌∷◌, ◌++◌, length, map, drop, get_or, refl, ap, sym, ◌∙◌, subst, None, Some}
 use Rattle.prem_annotate.proofs.Prelude.{after-step, plain_before, plain_row, plain, plain_list, argument, Sight, touched, both, arguments_from, passed, behind, looked, touch, touched_by}
 use Rattle.prem_annotate.proofs.Prelude.{touched_by_all, touched_in, KnownCall, known_call, calls_in, GlobalAccess, loop_end, in_counting, in_body, behind_loop, in_while, behind_call, after}
 use Rattle.prem_annotate.proofs.Prelude.{Environment, at_local, any_again, assigned, joined, range_of, refined, Term, operator, Steps, Done, SetLocal, SetScalar, SetElement, Output, Input}
-use Rattle.prem_annotate.proofs.Prelude.{If, For, While, Call, Place, term_of, Step, Row_of-Step, end_of-Step, more_of-Step, exactly, BinOp, Kind, ◌≡◌, ℕ, ◌+◌, ◌<◌, ◌≤◌, Bool, true, false}
-use Rattle.prem_annotate.proofs.Prelude.{List, [], ◌∷◌, ◌++◌, length, map, drop, get_or, refl, ap, sym, ◌∙◌, subst, None, Some, append-nil, append_assoc, drop_more, drop_all, pos}
+use Rattle.prem_annotate.proofs.Prelude.{If, For, While, Call, Place, term_of, Step, Row_of-Step, end_of-Step, more_of-Step, exactly, BinOp, Kind, append-nil, append_assoc, drop_more}
+use Rattle.prem_annotate.proofs.Prelude.{drop_all, pos}
 use Rattle.prem_analysis.specs.Ranging.Shortcut.{shortcut_of}
 use Rattle.prem_annotate.specs.Seeing.Sight.{Argument}
 use Rattle.prem_annotate.specs.Seeing.Walk.{called}

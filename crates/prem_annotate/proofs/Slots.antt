@@ -1,8 +1,9 @@
 -- The slots of parameters are the joins of what calls give them.
+use Rattle.std.proofs.Common.{◌≡◌, ℕ, zero, suc, ◌+◌, ◌<◌, ◌≤◌, Bool, true, false, cond, List, [], ◌∷◌, ◌++◌, length, map, drop, get_or, set, refl, ap, sym, ◌∙◌, arith, Some}
+use Rattle.std.specs.Prelude.{◌==◌, ◌&&◌, ◌-◌, slice_get}
 use Rattle.prem_annotate.proofs.Prelude.{slot, given, at_number, with_argument, with_arguments, empty_slot, empty_row, with_slots, argument, argument_of, arguments_from, passed}
 use Rattle.prem_annotate.proofs.Prelude.{Argument as ArgumentTree, join_all, argument_at, given_by, if_narrower, stated_or, ranged_parameters, KnownCall, Environment, range_of, promoted}
-use Rattle.prem_annotate.proofs.Prelude.{Term, Routine, Parameter, Span, converted, Kind, ◌≡◌, ℕ, zero, suc, ◌+◌, ◌<◌, ◌≤◌, Bool, true, false, cond, List, [], ◌∷◌, ◌++◌, length, map, drop}
-use Rattle.prem_annotate.proofs.Prelude.{get_or, set, refl, ap, sym, ◌∙◌, arith, Some, nat_tests, drop_more, ◌==◌, ◌&&◌, ◌-◌, slice_get}
+use Rattle.prem_annotate.proofs.Prelude.{Term, Routine, Parameter, Span, converted, Kind, nat_tests, drop_more}
 use Rattle.prem_annotate.specs.Ranges.Slots.{ParameterRange}
 use Rattle.prem_annotate.specs.Seeing.Sight.{Argument}
 use Rattle.prem_annotating.specs.Inferred.{given as given_in}

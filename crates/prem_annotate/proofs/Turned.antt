@@ -1,10 +1,12 @@
 -- What is seen of functions, and so what calls give their parameters, doesn't rest on the turns of their loops.
+use Rattle.std.proofs.Common.{◌≡◌, ℕ, ◌+◌, Bool, true, false, List, ◌∷◌, ◌++◌, map, refl, ap, ◌∙◌, eqb}
+use Rattle.std.specs.Prelude.{◌||◌, pos}
 use Rattle.prem_annotate.proofs.Prelude.{ranges_of, outlook, Outlook, passed, ranged_parameters, ranged_routine, ranged_routines, touch, touched_by, touched_by_all, touched_in}
 use Rattle.prem_annotate.proofs.Prelude.{touched_by_locals, touched_by_result, touches_of, KnownCall, known_call, calls_in, calls_of, calls_of_all, both_same, is_target, assigns, end_of}
 use Rattle.prem_annotate.proofs.Prelude.{loop_end, body_range, range_behind, in_body, behind_loop, in_while, behind_call, after, known_parameter, declared, at_body, Environment, any_again}
 use Rattle.prem_annotate.proofs.Prelude.{with_range, assigned, at_local, joined, loosened, range_of, refined, Alike, alike_done, alike_local, alike_scalar, alike_element, alike_output}
 use Rattle.prem_annotate.proofs.Prelude.{alike_input, alike_if, alike_for, alike_while, alike_call, AlikeRoutine, AlikeRoutines, no_routines, next_routine, Term, Steps, Routine}
-use Rattle.prem_annotate.proofs.Prelude.{FunctionText, exactly, ◌≡◌, ℕ, ◌+◌, Bool, true, false, List, ◌∷◌, ◌++◌, map, refl, ap, ◌∙◌, eqb, ◌||◌, pos}
+use Rattle.prem_annotate.proofs.Prelude.{FunctionText, exactly}
 
 -- ---- what is known
 

@@ -1,6 +1,6 @@
 -- The annotations of functions: the RANGEs of parameters, and the marks of those that are marked.
-use Rattle.prem_annotate.specs.Prelude.{marked_routines, texts_of, all_annotated, ranged_routines, Resolved, MarkText, GlobalVariable, FunctionText, ProgramText, Place, option_map, ◌≡◌, ℕ}
-use Rattle.prem_annotate.specs.Prelude.{◌+◌, ℤ, max, slice_index_or, List, [], ◌∷◌, map, Option}
+use Rattle.std.specs.Prelude.{◌≡◌, ℕ, ◌+◌, ℤ, max, slice_index_or, List, [], ◌∷◌, map, Option}
+use Rattle.prem_annotate.specs.Prelude.{marked_routines, texts_of, all_annotated, ranged_routines, Resolved, MarkText, GlobalVariable, FunctionText, ProgramText, Place, option_map}
 use Rattle.prem_annotate.specs.Ranges.Outlook.{Outlook, ranges_of}
 use Rattle.prem_annotate.specs.Regions.Found.{regions_found}
 use Rattle.prem_annotate.specs.declared.notes.FunctionNotes.{FunctionNotes}

@@ -10,4 +10,4 @@ pub use Rattle.prem_syntax.specs.Syntax.{FunctionText, GlobalVariable, MarkText,
 pub use Rattle.prem_syntax.specs.declared.tree.Place.{Place}
 pub use Rattle.prem_word.specs.Ranges.{Span, converted}
 pub use Rattle.std.specs.Option.{option_map}
-pub use Rattle.std.specs.Prelude.{Bool, List, None, Ok, Option, Some, Vec, [], false, map, max, slice_get, slice_index_or, suc, true, zero, ℕ, ℤ, ⊤, ◌++◌, ◌+◌, ◌∷◌, ◌≡◌, ◌≤ℤ◌}
+pub use Rattle.std.specs.Prelude.{List, Option, map, ℤ}

@@ -1,17 +1,17 @@
 -- Each text of a program has one with its annotations, by edits at annotations alone.
+use Rattle.std.proofs.Common.{ℤ, ◌≡◌, ℕ, suc, ◌+◌, true, List, [], ◌∷◌, ◌++◌, length, map, refl, sym, ap, subst, ◌∙◌, arith, Option, None, Some, Result, Ok, Err}
 use Rattle.prem_annotating.proofs.Prelude.{annotated_mark, marked_routines, texts_of, all_ranged, all_annotated, range_bytes, range_order, range_orders, mark_orders, function_orders, Wanted}
 use Rattle.prem_annotating.proofs.Prelude.{annotations, all_orders, edited_text, text_with, Order, leave, put, mode_of, edited, stated_or, inferred, ranged_parameter, ranged_parameters}
 use Rattle.prem_annotating.proofs.Prelude.{ranged_routines, Each, range_phrase, AnnotatedFunction, AnnotatedItems, no_items, a_global, a_function, IsSaidRange, IsSaidMark, CanBeSaid}
 use Rattle.prem_annotating.proofs.Prelude.{AnnotatedTextsAreThere, TextsAreAnnotated, Piece, a_token, text_of, lexemes_in, AreDivided, AreGaps, range_pieces, EndsInToken, Edited, with_range}
-use Rattle.prem_annotating.proofs.Prelude.{regions_reached, KnownCall, calls_of_all, Copying, TokenPlace, Elsewhere, BehindName, InParameters, resolved, promoted, resolve_items, functions_of}
-use Rattle.prem_annotating.proofs.Prelude.{loops_within, Routine, unlimited, Text, Parameter, MarkText, GlobalVariable, FunctionText, global_item, function_item, ProgramText, complete}
-use Rattle.prem_annotating.proofs.Prelude.{text_read, range_lexemes, lexemes_of, unplaced_parameter, unplaced_mark, IsRow, void_type, type_of, Declaration, IsDeclaration, declaration_tokens}
-use Rattle.prem_annotating.proofs.Prelude.{MarkPhrase, IsMark, mark_tokens, mark_tree, RangePhrase, IsRange, range_tokens, range_tree, ParameterPhrase, IsParameter, parameter_tokens}
-use Rattle.prem_annotating.proofs.Prelude.{parameter_tree, PartedParameter, ParametersPhrase, of_void, of_parameters, begins_void, ArePartedParameters, AreParameters}
+use Rattle.prem_annotating.proofs.Prelude.{regions_reached, KnownCall, calls_of_all, Copying, TokenPlace, Elsewhere, BehindName, InParameters, resolved, promoted, resolve_items}
+use Rattle.prem_annotating.proofs.Prelude.{functions_of, loops_within, Routine, unlimited, Text, Parameter, MarkText, GlobalVariable, FunctionText, global_item, function_item, ProgramText}
+use Rattle.prem_annotating.proofs.Prelude.{complete, text_read, range_lexemes, lexemes_of, unplaced_parameter, unplaced_mark, IsRow, void_type, type_of, Declaration, IsDeclaration}
+use Rattle.prem_annotating.proofs.Prelude.{declaration_tokens, MarkPhrase, IsMark, mark_tokens, mark_tree, RangePhrase, IsRange, range_tokens, range_tree, ParameterPhrase, IsParameter}
+use Rattle.prem_annotating.proofs.Prelude.{parameter_tokens, parameter_tree, PartedParameter, ParametersPhrase, of_void, of_parameters, begins_void, ArePartedParameters, AreParameters}
 use Rattle.prem_annotating.proofs.Prelude.{parted_parameter_tokens, parted_parameter_trees, parameters_tokens, parameters_tree, local_tokens, result_tokens, FunctionPhrase, IsFunction}
 use Rattle.prem_annotating.proofs.Prelude.{function_tokens, function_tree, ItemPhrase, of_global, of_function, AreItems, items_tokens, items_tree, global_tokens, a_name, right_brace}
-use Rattle.prem_annotating.proofs.Prelude.{the_end, is_end, all_written, Lexeme, name, end_of_text, Seen, tokens_of, reads, IsProgramText, FrontFail, ◌≡◌, ℕ, suc, ◌+◌, true, List, [], ◌∷◌}
-use Rattle.prem_annotating.proofs.Prelude.{◌++◌, length, map, refl, sym, ap, subst, ◌∙◌, arith, Option, None, Some, Result, Ok, Err, append_cancel_right, option_map}
+use Rattle.prem_annotating.proofs.Prelude.{the_end, is_end, all_written, Lexeme, name, end_of_text, Seen, tokens_of, reads, IsProgramText, FrontFail, append_cancel_right, option_map}
 use Rattle.prem_annotating.proofs.Calls.{each_left, each_right}
 use Rattle.prem_annotating.proofs.EditingLemmas.Goes.{Goes, Stays, from, goes_both, stays_go, quiet_stays}
 use Rattle.prem_annotating.proofs.EditingLemmas.Places.{edited_is}
@@ -27,7 +27,6 @@ use Rattle.prem_annotating.proofs.Pieces.{pieces_of}
 use Rattle.prem_annotating.proofs.There.{gaps_go, piece_cut, first_token, gap_lexemes, AreSpelled, divided_spelled, spelled_left, spelled_right, edited_itself, edited_append, kept_front}
 use Rattle.prem_annotating.proofs.There.{EditedTo, new_mark_of}
 use Rattle.prem_annotating.specs.Pieces.{IsConstant}
-use Rattle.std.proofs.Common.{ℤ}
 use Rattle.std.proofs.lemmas.List.{append_assoc, append-nil}
 
 -- pieces that stay

@@ -1,11 +1,11 @@
 -- An edited text divides as its pieces say; and rows that are put in are right.
+use Rattle.std.proofs.Common.{ℤ, ◌≡◌, Bool, true, false, List, [], ◌∷◌, ◌++◌, map, refl, sym, ap, subst, ◌∙◌, arith, Some}
 use Rattle.prem_annotating.proofs.Prelude.{anywhere, constant_phrase, range_phrase, region_row, Piece, a_token, AreDivided, said, mark_piece, Edited, all_edited, kept_piece, with_range}
 use Rattle.prem_annotating.proofs.Prelude.{with_regions, with_length, EditedTextsDivide, is_below, RegionText, number_lexeme, constant_lexemes, range_lexemes, region_lexemes}
 use Rattle.prem_annotating.proofs.Prelude.{regions_lexemes, lexemes_of, unplaced_region, IsRow, IsConstant as IsConstantPhrase, constant_slots, constant_tree, constant_value, IsRange}
-use Rattle.prem_annotating.proofs.Prelude.{range_tokens, range_tree, AreRegions, region_trees, region_tokens, Lexeme, number, word, mark, Seen, ◌≡◌, Bool, true, false, List, [], ◌∷◌, ◌++◌}
-use Rattle.prem_annotating.proofs.Prelude.{map, refl, sym, ap, subst, ◌∙◌, arith, Some, ints, int_lt, unsigned_abs, pos, negsuc, neg_ℤ}
+use Rattle.prem_annotating.proofs.Prelude.{range_tokens, range_tree, AreRegions, region_trees, region_tokens, Lexeme, number, word, mark, Seen, ints, int_lt, unsigned_abs, pos, negsuc}
+use Rattle.prem_annotating.proofs.Prelude.{neg_ℤ}
 use Rattle.prem_annotating.proofs.Inserted.{range_put, regions_put, length_put}
-use Rattle.std.proofs.Common.{ℤ}
 use Rattle.std.proofs.lemmas.List.{append_assoc}
 use Rattle.std.specs.Prelude.{cond}
 use Rattle.prem_text.specs.declared.lexing.token.token.Mark.TheVariants as m

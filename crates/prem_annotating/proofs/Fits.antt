@@ -1,4 +1,5 @@
 -- All ranges of parameters lie in their kinds: those that stood, and those that are new.
+use Rattle.std.proofs.Common.{◌≡◌, ℕ, zero, suc, ◌+◌, ◌*◌, Bool, true, false, List, [], ◌∷◌, ◌++◌, map, refl, ap, sym, ◌∙◌, subst, arith, Option, None, Some, eqb}
 use Rattle.prem_annotating.proofs.Prelude.{all_ranged, annotated, other_breaches, first_other, join_with, join_all, argument_at, given_by, given, inferred, stated_or, ranged_parameter}
 use Rattle.prem_annotating.proofs.Prelude.{ranged_parameters, ranged_routine, ranged_routines, RangesFit, Each, KnownCall, calls_in, calls_of, calls_of_all, none_left, none_right, unbroken}
 use Rattle.prem_annotating.proofs.Prelude.{is_not_below, none_first, kinds-at_local, kinds-loosened, kinds-joined, kinds-refined, ranged_local, ranged_any, ranged_loosened, ranged_joined}
@@ -8,8 +9,7 @@ use Rattle.prem_annotating.proofs.Prelude.{behind_call, after, stated_or_whole, 
 use Rattle.prem_annotating.proofs.Prelude.{Site, in_term, in_range_of_int, in_turns, in_counting_loop, in_steps, in_arguments, in_scalar, in_element, parameters_of, in_locals, in_result}
 use Rattle.prem_annotating.proofs.Prelude.{in_routine, range_of, refined, resolved, kinds_of, AllTyped, TypedSteps, TypedLocals, TypedRoutine, Ranged, none_ranged, next_ranged, kind_of}
 use Rattle.prem_annotating.proofs.Prelude.{promoted, parameter_names, Term, Steps, Done, SetLocal, SetScalar, SetElement, Output, Input, If, For, While, Call, Routine, Resolved, unlimited}
-use Rattle.prem_annotating.proofs.Prelude.{Text, Parameter, LocalVariable, GlobalVariable, Ty, whole_kept, join_kept, converted_kept, Span, from_to, Kind, ◌≡◌, ℕ, zero, suc, ◌+◌, ◌*◌, Bool}
-use Rattle.prem_annotating.proofs.Prelude.{true, false, List, [], ◌∷◌, ◌++◌, map, refl, ap, sym, ◌∙◌, subst, arith, Option, None, Some, eqb, map-append, ℤ, slice_get}
+use Rattle.prem_annotating.proofs.Prelude.{Text, Parameter, LocalVariable, GlobalVariable, Ty, whole_kept, join_kept, converted_kept, Span, from_to, Kind, map-append, ℤ, slice_get}
 use Rattle.prem_annotating.proofs.Lists.{each_append}
 use Rattle.prem_annotating.proofs.Ranges.{parameters_marked, narrower_is}
 use Rattle.prem_annotating.proofs.Regions.{bare_site, unwatched, others_at}

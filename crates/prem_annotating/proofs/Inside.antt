@@ -1,6 +1,8 @@
 -- Each region of the annotated program is one of a global.
-use Rattle.prem_annotating.proofs.Prelude.{all_ranged, other_breaches, first_other, RegionsFit, Each, elements_in, element_number, GlobalAccess, touch, touched_by, touched_by_all, touched_in}
-use Rattle.prem_annotating.proofs.Prelude.{touched_by_locals, touched_by_result, touches_of, none_left, none_right, unbroken, unbroken_not, is_at_most, is_not_below, none_first}
+use Rattle.std.proofs.Common.{◌≡◌, ℕ, ◌+◌, ◌*◌, ◌<◌, ◌≤◌, Bool, true, false, List, [], ◌∷◌, ◌++◌, map, refl, ap, sym, ◌∙◌, subst, arith, Option, None, Some}
+use Rattle.std.specs.Prelude.{ℤ, pos, ◌-ℤ◌, ◌≤ℤ◌, int_le, ◌||◌, ◌==◌, slice_get, unwrap_or}
+use Rattle.prem_annotating.proofs.Prelude.{all_ranged, other_breaches, first_other, RegionsFit, Each, elements_in, element_number, GlobalAccess, touch, touched_by, touched_by_all}
+use Rattle.prem_annotating.proofs.Prelude.{touched_in, touched_by_locals, touched_by_result, touches_of, none_left, none_right, unbroken, unbroken_not, is_at_most, is_not_below, none_first}
 use Rattle.prem_annotating.proofs.Prelude.{kinds-at_local, kinds-loosened, kinds-joined, kinds-refined, ranged_local, ranged_any, ranged_loosened, ranged_joined, term_kept, ranged_refined}
 use Rattle.prem_annotating.proofs.Prelude.{LoopFits, body_kept, behind_kept, ranged_counting, ranged_call, ranged_declared, kinds-after, kinds-behind_call, kinds-in_body}
 use Rattle.prem_annotating.proofs.Prelude.{well_formed_is_typed, assigns, loop_end, turn_bound, in_counting, body_range, range_behind, in_body, behind_loop, in_while, behind_call, after}
@@ -9,9 +11,8 @@ use Rattle.prem_annotating.proofs.Prelude.{in_divisor, in_argument, in_term, in_
 use Rattle.prem_annotating.proofs.Prelude.{in_locals, in_result, in_routine, range_of, refined, IndexOutside, resolved, kinds_of, Typed, TypedResult, AllTyped, TypedSteps, TypedLocals}
 use Rattle.prem_annotating.proofs.Prelude.{TypedRoutine, Ranged, ProgramHasWords, IsWellFormed, callee_table, reach_set, kind_of, promoted, Term, Constant, Local, Scalar, Element, Unary}
 use Rattle.prem_annotating.proofs.Prelude.{Binary, AndAlso, OrElse, Steps, Done, SetLocal, SetScalar, SetElement, Output, Input, If, For, While, Call, Routine, Resolved, unlimited, Text}
-use Rattle.prem_annotating.proofs.Prelude.{Parameter, LocalVariable, GlobalVariable, ProgramText, Place, Ty, converted_kept, Span, from_to, exactly, encloses, converted, Kind, ◌≡◌, ℕ, ◌+◌}
-use Rattle.prem_annotating.proofs.Prelude.{◌*◌, ◌<◌, ◌≤◌, Bool, true, false, List, [], ◌∷◌, ◌++◌, map, refl, ap, sym, ◌∙◌, subst, arith, Option, None, Some, and_parts, ints, clamps}
-use Rattle.prem_annotating.proofs.Prelude.{map-append, ℤ, pos, ◌-ℤ◌, ◌≤ℤ◌, int_le, ◌||◌, ◌==◌, slice_get, unwrap_or}
+use Rattle.prem_annotating.proofs.Prelude.{Parameter, LocalVariable, GlobalVariable, ProgramText, Place, Ty, converted_kept, Span, from_to, exactly, encloses, converted, Kind, and_parts}
+use Rattle.prem_annotating.proofs.Prelude.{ints, clamps, map-append}
 use Rattle.prem_annotating.proofs.Fits.{walked, kinds_parameters, kinds_declared, AllFit, all_fit, fit_at}
 use Rattle.prem_annotating.proofs.Kept.{Kept, kept_at}
 use Rattle.prem_annotating.proofs.Least.{Source, source_back, source_natural, one_region, standing_of}

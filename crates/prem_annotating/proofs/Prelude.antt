@@ -10,8 +10,7 @@ unfoldable pub use Rattle.prem_annotating.specs.Editing.Orders.{constant_bytes}
 pub use Rattle.prem_annotating.specs.Editing.Standing.{advanced, behind_byte, behind_token, by_token, if_begun, one_if, over}
 pub use Rattle.prem_annotating.specs.Editing.Walk.{Marked, Order, Step, at_byte, at_close, at_literal, at_name, at_token, begins, behind, behind_close, behind_name, behind_type, edited}
 pub use Rattle.prem_annotating.specs.Editing.Walk.{elsewhere, first_if, first_order, gone, in_mark, in_parameters, in_range, is_close, is_open, is_predictable, is_range, is_type, kept}
-pub use Rattle.prem_annotating.specs.Editing.Walk.{leave, marked, mode_of, put, put_for, rest_if, same_place, skipped, tokens_behind, type_or, walked}
-pub use Rattle.prem_annotating.specs.Editing.Walk.{step}
+pub use Rattle.prem_annotating.specs.Editing.Walk.{leave, marked, mode_of, put, put_for, rest_if, same_place, skipped, tokens_behind, type_or, walked, step}
 pub use Rattle.prem_annotating.specs.Inferred.{argument_at, given, given_by, if_narrower, inferred, join_all, join_with, ranged_before, ranged_parameter, ranged_parameters, ranged_routine}
 pub use Rattle.prem_annotating.specs.Inferred.{ranged_routines, stated_or, with_parameters}
 pub use Rattle.prem_annotating.specs.Laws.{AnnotatedStaysInRange, HasRegion, IsLeast, IsOfGlobal, NewRangesHold, RangesAreInferred, RangesAreLeast, RangesFit, RegionsAreLeast, RegionsFit}
@@ -56,8 +55,7 @@ pub use Rattle.prem_syntax.specs.Resolve.{local_number, loops_in, loops_within, 
 pub use Rattle.prem_syntax.specs.Resolve.{resolve_statement, resolve_statements, resolve_term, set_steps, target_of, variable_term}
 pub use Rattle.prem_syntax.specs.Resolved.{AndAlso, Binary, Call, Constant, Done, Element, For, If, Input, Local, OrElse, Output, Resolved, Routine, Scalar, SetElement, SetLocal, SetScalar}
 pub use Rattle.prem_syntax.specs.Resolved.{Steps, Term, Unary, While}
-pub use Rattle.prem_syntax.specs.Source.{Limits, access_of, calls_below, do_jobs, enter_if_there, everywhere, source_within, this_or, unlimited}
-pub use Rattle.prem_syntax.specs.Source.{start}
+pub use Rattle.prem_syntax.specs.Source.{Limits, access_of, calls_below, do_jobs, enter_if_there, everywhere, source_within, this_or, unlimited, start}
 pub use Rattle.prem_syntax.specs.Syntax.{Expression, FunctionText, GlobalVariable, LocalVariable, MarkText, Parameter, ProgramText, RegionText, Statement, Statements, Text, absent, assign}
 pub use Rattle.prem_syntax.specs.Syntax.{binary, block, bounded_while, call, counting_for, element, function_item, global_item, if_else, if_then, input, literal, many, next_statement}
 pub use Rattle.prem_syntax.specs.Syntax.{no_statements, one, output, unary, variable}
@@ -105,8 +103,7 @@ pub use Rattle.prem_text.specs.Grammar.StatementPhrases.{step_slots, summed_step
 pub use Rattle.prem_text.specs.Grammar.StatementPhrases.{written}
 pub use Rattle.prem_text.specs.Lexing.Spelling.{marks}
 unfoldable pub use Rattle.prem_text.specs.Lexing.Spelling.{is_unused, longest_mark, reserved_word, used_word}
-pub use Rattle.prem_text.specs.Lexing.Token.Lexeme.{Lexeme, Seen, end_of_text, lexeme_of, name, number, seen_of, word}
-pub use Rattle.prem_text.specs.Lexing.Token.Lexeme.{mark}
+pub use Rattle.prem_text.specs.Lexing.Token.Lexeme.{Lexeme, Seen, end_of_text, lexeme_of, name, number, seen_of, word, mark}
 pub use Rattle.prem_text.specs.Lexing.Tokens.{begins_with, is_digit, is_name_byte, place}
 unfoldable pub use Rattle.prem_text.specs.Lexing.Tokens.{first_token, lex, tokens_of}
 pub use Rattle.prem_text.specs.Spelling.Division.{AreTokens, Divides, Gap, IsToken, a_blank, a_block, a_line, ends_line, gap, goes_on, opens_comment, place_behind, token, up_to}
@@ -121,8 +118,6 @@ pub use Rattle.prem_word.specs.declared.kind.BinOp.{BinOp}
 pub use Rattle.prem_word.specs.declared.kind.BinOp.TheVariants.{Add, And, Div, Eq, Ge, Gt, Le, Lt, Mul, Ne, Or, Rem, Shl, Shr, Sub, Xor}
 pub use Rattle.prem_word.specs.declared.kind.Kind.{Kind}
 pub use Rattle.prem_word.specs.declared.kind.Kind.TheVariants.{Int, Unsigned}
-pub use Rattle.std.proofs.Common.{Bool, Err, List, None, Ok, Option, Result, Some, [], add-one, ap, append-nil, append_assoc, arith, cond, drop, drop-cons, eqb, false, get_or, inl, inr}
-pub use Rattle.std.proofs.Common.{length, map, refl, subst, suc, sym, true, zero, zero-le, ℕ, ⊎_elim, ◌*◌, ◌++◌, ◌+◌, ◌<◌, ◌^◌, ◌∙◌, ◌∷◌, ◌≡◌, ◌≤◌, ◌⊎◌}
 pub use Rattle.std.proofs.lemmas.Bool.{and_from, and_left, and_parts, and_right, or_from}
 pub use Rattle.std.proofs.lemmas.Bool.Decides.{nat_tests}
 pub use Rattle.std.proofs.lemmas.Grind.{flat_map-append}
@@ -133,6 +128,5 @@ pub use Rattle.std.proofs.lemmas.Slice.Eq.{bytes_eq-Decides}
 pub use Rattle.std.specs.Int.{int_max, int_min}
 pub use Rattle.std.specs.List.{filter, flat_map, list_any}
 pub use Rattle.std.specs.Option.{option_map}
-pub use Rattle.std.specs.Prelude.{IsTrue, codes, if◌then◌else◌, int_le, int_lt, is_none, is_some, max, nat_lt, neg_ℤ, negsuc, not, pos, slice_get, unsigned_abs, unwrap_or, ℤ, ◌&&◌, ◌+ℤ◌}
-pub use Rattle.std.specs.Prelude.{◌-ℤ◌, ◌==◌, ◌||◌, ◌≤ℤ◌}
+pub use Rattle.std.specs.Prelude.{codes, int_le, int_lt, is_some, max, nat_lt, neg_ℤ, negsuc, not, pos, slice_get, unsigned_abs, unwrap_or, ℤ}
 pub use Rattle.std.specs.Str.{bytes_eq}

@@ -1,12 +1,12 @@
 -- What a program needs can be said: its numbers are those of literals, and its names those of globals.
+use Rattle.std.proofs.Common.{◌≡◌, ℕ, zero, suc, ◌+◌, ◌≤◌, List, [], ◌∷◌, ◌++◌, refl, ap, sym, ◌∙◌, subst, arith, Option, None, Some}
+use Rattle.std.specs.Prelude.{ℤ, pos, negsuc, max, ◌≤ℤ◌, unsigned_abs, slice_get, unwrap_or}
 use Rattle.prem_annotating.proofs.Prelude.{annotated_mark, texts_of, all_ranged, all_annotated, annotated, first_other, ranged_routines, functions_in, IsOfGlobal, Each, IsSaidRange}
 use Rattle.prem_annotating.proofs.Prelude.{IsSaidMark, CanBeSaid, AreRegionWords, parameters_of, resolved, ProgramHasWords, IsWellFormed, promoted, globals_of, functions_of, Routine}
 use Rattle.prem_annotating.proofs.Prelude.{Resolved, unlimited, Text, Parameter, RegionText, MarkText, GlobalVariable, FunctionText, ProgramText, global_item, function_item, IsSayable}
 use Rattle.prem_annotating.proofs.Prelude.{AreSayable, AreSaid, front as said_front, tokens_said, text_read, kind_for, type_lexemes, declaration_lexemes, length_lexemes, initial_lexemes}
 use Rattle.prem_annotating.proofs.Prelude.{global_lexemes, mark_lexemes, parameters_lexemes, locals_lexemes, statements_lexemes, result_lexemes, function_lexemes, program_lexemes}
-use Rattle.prem_annotating.proofs.Prelude.{items_tokens, Lexeme, name, number, word, mark, end_of_text, Spells, IsProgramText, from_to, Kind, Int, Unsigned, ◌≡◌, ℕ, zero, suc, ◌+◌, ◌≤◌}
-use Rattle.prem_annotating.proofs.Prelude.{List, [], ◌∷◌, ◌++◌, refl, ap, sym, ◌∙◌, subst, arith, Option, None, Some, ints, option_map, ℤ, pos, negsuc, max, ◌≤ℤ◌, unsigned_abs, slice_get}
-use Rattle.prem_annotating.proofs.Prelude.{unwrap_or}
+use Rattle.prem_annotating.proofs.Prelude.{items_tokens, Lexeme, name, number, word, mark, end_of_text, Spells, IsProgramText, from_to, Kind, Int, Unsigned, ints, option_map}
 use Rattle.prem_annotating.proofs.Annotates.{texts_resolved}
 use Rattle.prem_annotating.proofs.Fits.{ranges_fit}
 use Rattle.prem_annotating.proofs.Inside.{regions_fit}

@@ -1,12 +1,13 @@
 -- The edits of a text: at each function's mark and parameters, where something differs.
+use Rattle.std.proofs.Common.{◌≡◌, ◌≤◌, ℕ, Bool, true, false, List, [], ◌∷◌, ◌++◌, map, refl, sym, ap, subst, ◌∙◌, arith, Some}
+use Rattle.std.specs.Prelude.{cond, length, ◌==◌, ◌&&◌, if◌then◌else◌}
 use Rattle.prem_annotating.proofs.Prelude.{same_region, same_regions, length_order, regions_order, Order, leave, put, put_for, mode_of, region_row, Piece, between, a_token, text_of}
 use Rattle.prem_annotating.proofs.Prelude.{lexemes_in, AreDivided, said, mark_piece, range_pieces, regions_pieces, AreRegionWords, AreGaps, EndsInToken, Edited, all_edited, kept_piece}
-use Rattle.prem_annotating.proofs.Prelude.{with_range, with_regions, with_length, Copying, TokenPlace, Elsewhere, InMark, RegionText, MarkText, stands_every, same_bytes, number_lexeme, kind_for}
-use Rattle.prem_annotating.proofs.Prelude.{lexemes_of, lexeme_bytes, unplaced_region, unplaced_mark, IsRow, MarkPhrase, AreRegions, region_tokens, region_trees, IsMark, mark_tokens}
-use Rattle.prem_annotating.proofs.Prelude.{mark_tree, nowhere, Slot, left_parenthesis, right_parenthesis, a_name, a_literal, comma, the_region, the_predictable, value_of, value_at}
-use Rattle.prem_annotating.proofs.Prelude.{is_left_parenthesis, is_right_parenthesis, is_literal, marks, Lexeme, number, word, mark, Seen, StandsIn, every, Spells, as_mark, Mark, Kind, ◌≡◌}
-use Rattle.prem_annotating.proofs.Prelude.{◌≤◌, ℕ, Bool, true, false, List, [], ◌∷◌, ◌++◌, map, refl, sym, ap, subst, ◌∙◌, arith, Some, and_parts, nat_tests, bytes_eq-Decides, option_map}
-use Rattle.prem_annotating.proofs.Prelude.{◌==◌, ◌&&◌, if◌then◌else◌, bytes_eq}
+use Rattle.prem_annotating.proofs.Prelude.{with_range, with_regions, with_length, Copying, TokenPlace, Elsewhere, InMark, RegionText, MarkText, stands_every, same_bytes, number_lexeme}
+use Rattle.prem_annotating.proofs.Prelude.{kind_for, lexemes_of, lexeme_bytes, unplaced_region, unplaced_mark, IsRow, MarkPhrase, AreRegions, region_tokens, region_trees, IsMark}
+use Rattle.prem_annotating.proofs.Prelude.{mark_tokens, mark_tree, nowhere, Slot, left_parenthesis, right_parenthesis, a_name, a_literal, comma, the_region, the_predictable, value_of}
+use Rattle.prem_annotating.proofs.Prelude.{value_at, is_left_parenthesis, is_right_parenthesis, is_literal, marks, Lexeme, number, word, mark, Seen, StandsIn, every, Spells, as_mark, Mark}
+use Rattle.prem_annotating.proofs.Prelude.{Kind, and_parts, nat_tests, bytes_eq-Decides, option_map, bytes_eq}
 use Rattle.prem_annotating.proofs.EditingLemmas.Goes.{Goes, Stays, goes_both, stays_go, AreQuiet, quiet_join, quiet_stays}
 use Rattle.prem_annotating.proofs.EditingLemmas.Quiet.{row_quiet}
 use Rattle.prem_annotating.proofs.EditingLemmas.Single.{leave_goes, literal_goes, regions_go, trees_length}
@@ -14,7 +15,6 @@ use Rattle.prem_annotating.proofs.Edits.{regions_right, regions_are, regions_lex
 use Rattle.prem_annotating.proofs.Inserted.{regions_say}
 use Rattle.prem_text.specs.Grammar.Slots.{is_predictable}
 use Rattle.std.proofs.lemmas.List.{append_assoc, append-nil}
-use Rattle.std.specs.Prelude.{cond, length}
 use Rattle.prem_text.specs.declared.lexing.token.token.Mark.TheVariants as m
 use Rattle.prem_text.specs.declared.lexing.token.token.Word.TheVariants as w
 

@@ -1,7 +1,7 @@
 -- What annotating promises.
+use Rattle.std.specs.Prelude.{◌≡◌, ℕ, zero, suc, ◌<◌, ◌≤◌, ◌⊎◌, ℤ, true, List, [], ◌∷◌, slice_get, unwrap_or, Option, None, Some}
 use Rattle.prem_annotating.specs.Prelude.{parameters_of, in_routine, range_breaches, RangeBreach, resolved, StaysInRange, IsWellFormed, promoted, globals_of, Routine, Parameter, RegionText}
-use Rattle.prem_annotating.specs.Prelude.{MarkText, GlobalVariable, ProgramText, Span, from_to, encloses, IsRange, filter, flat_map, option_map, ◌≡◌, ℕ, zero, suc, ◌<◌, ◌≤◌, ◌⊎◌, ℤ, true}
-use Rattle.prem_annotating.specs.Prelude.{List, [], ◌∷◌, slice_get, unwrap_or, Option, None, Some}
+use Rattle.prem_annotating.specs.Prelude.{MarkText, GlobalVariable, ProgramText, Span, from_to, encloses, IsRange, filter, flat_map, option_map}
 use Rattle.prem_annotating.specs.Annotated.{with_mark, with_routines, all_ranged, annotated, is_region_rule, other_breaches, first_other}
 use Rattle.prem_annotating.specs.Inferred.{given, ranged_parameter}
 use Rattle.prem_annotating.specs.Lists.{Among}

@@ -1,7 +1,7 @@
 -- A text as its pieces, and pieces put in place of others.
+use Rattle.std.specs.Prelude.{◌≡◌, ℕ, ◌≤◌, ⊤, ℤ, unsigned_abs, List, [], ◌∷◌, ◌++◌, map, codes, Some}
 use Rattle.prem_annotating.specs.Prelude.{RegionText, number_lexeme, constant_lexemes, range_lexemes, regions_lexemes, lexemes_of, lexeme_bytes, unplaced_region, AreRegions, region_tokens}
-use Rattle.prem_annotating.specs.Prelude.{region_trees, Lexeme, name, number, word, mark, Seen, Gap, IsToken, Divides, Mark, Kind, ◌≡◌, ℕ, ◌≤◌, ⊤, ℤ, unsigned_abs, List, [], ◌∷◌, ◌++◌, map}
-use Rattle.prem_annotating.specs.Prelude.{codes, Some}
+use Rattle.prem_annotating.specs.Prelude.{region_trees, Lexeme, name, number, word, mark, Seen, Gap, IsToken, Divides, Mark, Kind}
 use Rattle.prem_text.specs.Spelling.Spellings.{Spells}
 use Rattle.prem_text.specs.declared.lexing.token.token.Mark.TheVariants as m
 use Rattle.prem_text.specs.declared.lexing.token.token.Word.TheVariants as w

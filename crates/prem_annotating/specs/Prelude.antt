@@ -26,5 +26,3 @@ pub use Rattle.prem_word.specs.Ranges.{IsRange, Span, converted, encloses, exact
 pub use Rattle.prem_word.specs.declared.kind.Kind.{Kind}
 pub use Rattle.std.specs.List.{filter, flat_map}
 pub use Rattle.std.specs.Option.{option_map}
-pub use Rattle.std.specs.Prelude.{Bool, Err, List, None, Ok, Option, Some, [], codes, drop, false, if◌then◌else◌, int_lt, length, map, max, not, pos, slice_get, slice_index_or, suc, true}
-pub use Rattle.std.specs.Prelude.{unsigned_abs, unwrap_or, zero, ℕ, ℤ, ⊤, ◌&&◌, ◌++◌, ◌+◌, ◌<◌, ◌==◌, ◌∷◌, ◌≡◌, ◌≤◌, ◌⊎◌}

@@ -1,5 +1,6 @@
 -- That a text can say the annotations of its program.
-use Rattle.prem_annotating.specs.Prelude.{IsWellFormed, ProgramText, IsProgramText, ◌≡◌, ℕ, ◌≤◌, List, None}
+use Rattle.std.specs.Prelude.{◌≡◌, ℕ, ◌≤◌, List, None}
+use Rattle.prem_annotating.specs.Prelude.{IsWellFormed, ProgramText, IsProgramText}
 use Rattle.prem_annotating.specs.Annotated.{texts_of, all_annotated, first_other}
 use Rattle.prem_annotating.specs.Phrases.{CanBeSaid}
 

@@ -1,12 +1,12 @@
 -- What holds of each instruction that templates emit holds of the code of terms, statements and functions.
+use Rattle.std.proofs.Common.{◌≡◌, ◌≢◌, ℕ, zero, suc, ◌+◌, ◌≤◌, refl, arith, cond, true, false, Bool, List, [], ◌∷◌, length, Some, None, Option}
 use Rattle.prem_code_laws.proofs.Prelude.{Pieces, no_pieces, straight, address_of, either, repeat, call_to, followed, address_code, branch_of, EachInstr, GoodJumps, EachPiece, Add, Sltu}
 use Rattle.prem_code_laws.proofs.Prelude.{Instr, OpImm, Op, MulDiv, Lui, Jal, Jalr, Branch, Load, Store, PmIn, PmOut, Lw, MulDivOp, Sw, counters_in, locals_of, frame_of, Parts, declare_code}
 use Rattle.prem_code_laws.proofs.Prelude.{argument_code, target_code, result_code, steps_code, function_code, load_slot, store_slot, store_argument, bound_test, step_code, count_code}
 use Rattle.prem_code_laws.proofs.Prelude.{turn_code, opening, closing, store_of, is_short, constant, scale, shift_of, unary_code, less, shift_right, by_target, binary_code, term_code, only}
 use Rattle.prem_code_laws.proofs.Prelude.{nonzero, Target, Rv32i, Rv32im, Term, Constant, Local, Scalar, Element, Unary, Binary, AndAlso, OrElse, Steps, Done as NoSteps, SetLocal, SetScalar}
 use Rattle.prem_code_laws.proofs.Prelude.{SetElement, Output, Input, If, For, While, Call, Routine, UnOp, Neg, Flip, Not, BinOp, Sub as Minus, Mul, Div, Rem, Shl, Shr, Lt, Le, Gt, Ge, Eq}
-use Rattle.prem_code_laws.proofs.Prelude.{Ne, And as BitAnd, Xor as BitXor, Or as BitOr, Kind, Int, Unsigned, ◌≡◌, ◌≢◌, ℕ, zero, suc, ◌+◌, ◌≤◌, refl, arith, cond, true, false, Bool, List}
-use Rattle.prem_code_laws.proofs.Prelude.{[], ◌∷◌, length, Some, None, Option, ℤ, pos, negsuc}
+use Rattle.prem_code_laws.proofs.Prelude.{Ne, And as BitAnd, Xor as BitXor, Or as BitOr, Kind, Int, Unsigned, ℤ, pos, negsuc}
 use Rattle.prem_isa.specs.declared.instr.AluOp.TheVariants.{Sub, Xor}
 use Rattle.prem_word.specs.declared.kind.BinOp.TheVariants.{Add as Plus, AndAlso as AndAlsoOp, OrElse as OrElseOp}
 use Rattle.std.specs.Prelude.{◌-◌}

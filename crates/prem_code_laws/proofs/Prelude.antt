@@ -115,9 +115,7 @@ pub use Rattle.prem_word.specs.declared.kind.BinOp.{BinOp}
 pub use Rattle.prem_word.specs.declared.kind.BinOp.TheVariants.{And, Div, Eq, Ge, Gt, Le, Lt, Mul, Ne, Or, Rem, Shl, Shr, Sub, Xor}
 pub use Rattle.prem_word.specs.declared.kind.Kind.{Kind}
 pub use Rattle.prem_word.specs.declared.kind.Kind.TheVariants.{Int, Unsigned}
-pub use Rattle.std.proofs.Common.{All, Bool, Err, List, None, Ok, Option, Some, [], ap, append-nil, append_assoc, arith, bit_or, bit_xor, cond, eq-eqb, eqb, false, get_or, leb, length}
-pub use Rattle.std.proofs.Common.{length-append, ltb, map, not, refl, subst, suc, sym, true, zero, ℕ, ⊎_elim, ◌%◌, ◌&&◌, ◌*◌, ◌++◌, ◌+◌, ◌-◌, ◌/◌, ◌<◌, ◌^◌, ◌||◌, ◌∙◌, ◌∷◌, ◌≡◌, ◌≢◌, ◌≤◌}
-pub use Rattle.std.proofs.Common.{◌⊎◌}
+pub use Rattle.std.proofs.Common.{Bool, [], ap, eq-eqb, eqb, false, length, refl, subst, suc, sym, true, zero, ℕ, ◌∙◌}
 pub use Rattle.std.proofs.Math.Dec.{eqb-suc-zero}
 pub use Rattle.std.proofs.Math.Logic.{inl, inr}
 pub use Rattle.std.proofs.Math.Nat.{div-le_self, div-mul-le_self, lt-div-mul-add, mod-eq_of_lt, mod-le, mul-add-mod_self_right, mul-le-mul_left, mul_comm, pow-succ', suc-mul}
@@ -130,5 +128,4 @@ pub use Rattle.std.proofs.lemmas.Option.{get_or_from_slice_get, slice_get_past, 
 pub use Rattle.std.specs.Int.{bit_not, cast_signed, int_shr, next_multiple_of, w32}
 pub use Rattle.std.specs.List.{AllByRecursion, list_any}
 pub use Rattle.std.specs.Option.{option_map}
-pub use Rattle.std.specs.Prelude.{Result, codes, if◌then◌else◌, int_div, int_lt, int_rem, is_some, nat_le, nat_lt, neg_ℤ, negsuc, pos, slice_get, slice_index, slice_set, unwrap_or, ℤ, ⊤}
-pub use Rattle.std.specs.Prelude.{◌+ℤ◌, ◌==◌}
+pub use Rattle.std.specs.Prelude.{Result, codes, int_div, int_lt, int_rem, is_some, neg_ℤ, negsuc, pos, slice_get, slice_index, slice_set, unwrap_or, ℤ}

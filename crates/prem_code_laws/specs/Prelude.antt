@@ -31,5 +31,3 @@ pub use Rattle.prem_syntax.specs.Source.{Limits, calls_below, do_jobs, everywher
 pub use Rattle.prem_syntax.specs.Statements.{MarkedCall, ProgramState, declare, is_marked, result_of}
 pub use Rattle.prem_syntax.specs.Syntax.{ProgramText}
 pub use Rattle.prem_word.specs.Bytes.{number_at}
-pub use Rattle.std.specs.Prelude.{All, Bool, List, None, Ok, Option, Some, [], false, is_some, length, map, pos, slice_get, slice_index, suc, true, zero, ℕ, ⊤, ◌%◌, ◌&&◌, ◌*◌, ◌++◌, ◌+◌}
-pub use Rattle.std.specs.Prelude.{◌-◌, ◌/◌, ◌<◌, ◌==◌, ◌^◌, ◌∷◌, ◌≡◌, ◌≢◌, ◌≤◌, ◌⊎◌}

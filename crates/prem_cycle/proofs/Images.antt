@@ -1,5 +1,6 @@
 -- The images of the worked runs: contents as words, and what stands beside them.
-use Rattle.prem_cycle.proofs.Prelude.{run_of, Setup, MachineState, rule_in, Request, DeviceRecord, TaskRecord, bytes_of, Plant, Lru, Rv32i, ℕ, ◌/◌, List, [], ◌∷◌, ◌++◌, codes, slice_set}
+use Rattle.std.proofs.Common.{ℕ, ◌/◌, List, [], ◌∷◌, ◌++◌}
+use Rattle.prem_cycle.proofs.Prelude.{run_of, Setup, MachineState, rule_in, Request, DeviceRecord, TaskRecord, bytes_of, Plant, Lru, Rv32i, codes, slice_set}
 use Rattle.std.specs.Prelude.{Some, None, replicate}
 
 -- ---- contents

@@ -88,9 +88,7 @@ pub use Rattle.prem_sched.specs.Schedule.{task_at, with_job}
 pub use Rattle.prem_sched.specs.declared.sched.Choice.{Choice}
 pub use Rattle.prem_sched.specs.declared.sched.Choice.TheVariants.{Finished, Run}
 pub use Rattle.prem_sched.specs.declared.sched.TaskJobs.{TaskJobs}
-pub use Rattle.std.proofs.Common.{Bool, IfSome, List, None, Option, Some, [], ap, append-nil, ap₂, arith, cond, drop, drop-drop, eq-eqb, eqb, eqb-true, false, get_or, inl, inr, is_none, leb}
-pub use Rattle.std.proofs.Common.{length, length-drop, ltb, map, min, refl, replicate, subst, suc, sym, true, zero, ℕ, ⊎_elim, ◌%◌, ◌*◌, ◌++◌, ◌+◌, ◌-◌, ◌/◌, ◌<◌, ◌∙◌, ◌∷◌, ◌≡◌, ◌≢◌, ◌≤◌}
-pub use Rattle.std.proofs.Common.{◌⊎◌}
+pub use Rattle.std.proofs.Common.{Bool, List, Option, false, true, ℕ}
 pub use Rattle.std.proofs.Math.Nat.{div-lt_iff_lt-mul, lt-div-mul-add}
 pub use Rattle.std.proofs.lemmas.Bool.{and_parts, cases_Bool, cases_eq, cases_lt, cond_both, le-ltb, leb-false, leb-true, lt-leb, lt-ltb, ltb-false, ltb-true, ne_eqb}
 pub use Rattle.std.proofs.lemmas.Bool.Decides.{nat_tests}
@@ -100,5 +98,4 @@ pub use Rattle.std.proofs.lemmas.List.Folds.{list_any-append}
 pub use Rattle.std.proofs.lemmas.List.Sums.{sum_by-append, sum_by-cons, sum_by-set}
 pub use Rattle.std.proofs.lemmas.Nat.{div-add-mod', mod-mul-add, mul-le}
 pub use Rattle.std.specs.List.{list_any}
-pub use Rattle.std.specs.Prelude.{All, Err, Ok, Result, codes, if◌then◌else◌, is_some, nat_le, nat_lt, not, option_map, slice_get, slice_index, slice_index_or, slice_set, sum_by, unwrap_or}
-pub use Rattle.std.specs.Prelude.{◌&&◌, ◌==◌, ◌||◌, ◌↔◌}
+pub use Rattle.std.specs.Prelude.{All, Err, Ok, Result, codes, is_some, nat_lt, option_map, slice_get, slice_index, slice_index_or, slice_set, sum_by, unwrap_or}

@@ -34,6 +34,3 @@ pub use Rattle.prem_sched.specs.Schedule.{choice, job_ended, starts_of, task_at}
 pub use Rattle.prem_sched.specs.declared.sched.Choice.{Choice}
 pub use Rattle.prem_sched.specs.declared.sched.Choice.TheVariants.{Finished, Idle, Run}
 pub use Rattle.prem_sched.specs.declared.sched.TaskJobs.{TaskJobs}
-pub use Rattle.std.specs.Prelude.{All, Bool, Err, IfSome, List, None, Ok, Option, Result, Some, [], count_by, drop, false, if◌then◌else◌, is_some, length, map, nat_le, nat_lt, not}
-pub use Rattle.std.specs.Prelude.{replicate, slice_get, slice_index, slice_index_or, slice_set, suc, sum_by, true, unwrap_or, zero, ℕ, ◌%◌, ◌&&◌, ◌*◌, ◌++◌, ◌+◌, ◌-◌, ◌/◌, ◌<◌, ◌==◌, ◌^◌}
-pub use Rattle.std.specs.Prelude.{◌||◌, ◌↔◌, ◌∷◌, ◌≡◌, ◌≢◌, ◌≤◌}

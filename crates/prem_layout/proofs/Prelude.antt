@@ -39,8 +39,6 @@ pub use Rattle.prem_syntax.specs.Syntax.{input, many, no_statements, one, output
 pub use Rattle.prem_syntax.specs.declared.tree.Ty.TheVariants.{Int, Schar, Short, Uchar, Unsigned, Ushort, Void}
 pub use Rattle.prem_syntax.specs.declared.tree.UnOp.TheVariants.{Flip, Neg, Not}
 pub use Rattle.prem_word.specs.declared.kind.BinOp.TheVariants.{Add, And, AndAlso, Div, Eq, Ge, Gt, Le, Lt, Mul, Ne, Or, OrElse, Rem, Shl, Shr, Sub, Xor}
-pub use Rattle.std.proofs.Common.{All, Bool, List, None, Option, Some, [], ap, arith, cond, drop, false, get_or, inl, inr, length, length-append, ltb, map, max, refl, replicate, slice_get}
-pub use Rattle.std.proofs.Common.{subst, suc, sym, take, true, zero, ℕ, ⊎_elim, ◌%◌, ◌*◌, ◌++◌, ◌+◌, ◌-◌, ◌/◌, ◌<◌, ◌^◌, ◌||◌, ◌∙◌, ◌∷◌, ◌≡◌, ◌≤◌, ◌⊎◌}
 pub use Rattle.std.proofs.Math.Nat.{div-mul-le_self, mul-mod_left}
 pub use Rattle.std.proofs.lemmas.Bool.{and_from, and_left, and_parts, and_right, cases_lt, cond_both, le-leb, le-ltb, leb-true, lt-leb, lt-ltb, ltb-false, ltb-true, or_cases}
 pub use Rattle.std.proofs.lemmas.List.{length-drop, length-map}

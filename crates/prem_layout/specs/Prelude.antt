@@ -21,6 +21,4 @@ pub use Rattle.prem_syntax.specs.declared.tree.Ty.{Ty}
 pub use Rattle.prem_syntax.specs.declared.tree.Ty.TheVariants.{Schar, Short, Uchar, Ushort}
 pub use Rattle.std.specs.Int.{next_multiple_of, to_le_bytes, w32}
 pub use Rattle.std.specs.List.{flat_map, list_any}
-pub use Rattle.std.specs.Prelude.{All, Bool, List, None, Option, Some, [], codes, count_by, drop, false, filter, if◌then◌else◌, length, map, max, nat_le, nat_lt, negsuc, option_map, pos}
-pub use Rattle.std.specs.Prelude.{replicate, slice_get, slice_index_or, suc, take, true, unwrap_or, zero, ℕ, ℤ, ◌%◌, ◌&&◌, ◌*◌, ◌++◌, ◌+◌, ◌-◌, ◌/◌, ◌<◌, ◌==◌, ◌^◌, ◌||◌, ◌↔◌, ◌∷◌, ◌≡◌, ◌≤◌}
-pub use Rattle.std.specs.Prelude.{◌⊎◌}
+pub use Rattle.std.specs.Prelude.{List, None, Option}

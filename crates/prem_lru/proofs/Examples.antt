@@ -1,6 +1,7 @@
 -- The definitions at small values, computed: two sets of two lines of four bytes, over 40 bytes of memory.
-use Rattle.prem_lru.proofs.Prelude.{Touched, empty_cache, entry_of, set_of, view_of, touch_of, store_of, to_front, lines_of, lines_in, rule_of, IsSettled, Plant, Lru, Fifo, number_at, ◌≡◌}
-use Rattle.prem_lru.proofs.Prelude.{ℕ, List, [], ◌∷◌, true, false, Some, refl, take, drop, range_with_len}
+use Rattle.std.proofs.Common.{◌≡◌, ℕ, List, [], ◌∷◌, true, false, Some, refl, take, drop}
+use Rattle.prem_lru.proofs.Prelude.{Touched, empty_cache, entry_of, set_of, view_of, touch_of, store_of, to_front, lines_of, lines_in, rule_of, IsSettled, Plant, Lru, Fifo, number_at}
+use Rattle.prem_lru.proofs.Prelude.{range_with_len}
 use Rattle.prem_plant.specs.declared.plant.Target.TheVariants.{Rv32i}
 
 abbrev plant : Plant

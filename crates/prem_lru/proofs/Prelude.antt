@@ -25,8 +25,7 @@ pub use Rattle.prem_plant.specs.declared.plant.Plant.{Plant}
 pub use Rattle.prem_plant.specs.declared.plant.Replacement.{Replacement}
 pub use Rattle.prem_plant.specs.declared.plant.Replacement.TheVariants.{Fifo, Lru}
 pub use Rattle.prem_word.specs.Bytes.{number_at, put_byte, put_number}
-pub use Rattle.std.proofs.Common.{Bool, List, None, Option, Some, [], ap, arith, cond, drop, eqb, false, get_or, inr, length, ltb, map, min, refl, rules, subst, suc, sym, take, true, zero}
-pub use Rattle.std.proofs.Common.{ℕ, ⊎_elim, ◌%◌, ◌*◌, ◌++◌, ◌+◌, ◌-◌, ◌/◌, ◌<◌, ◌^◌, ◌∙◌, ◌∷◌, ◌≡◌, ◌≢◌, ◌≤◌}
+pub use Rattle.std.proofs.Common.{ap, length, refl, subst, sym, ◌∙◌}
 pub use Rattle.std.proofs.lemmas.Bool.{cases_Bool, cases_eq, cases_lt, cases_order, cond_both, eq-eqb, eqb-true, le-ltb, lt-ltb, ltb-false, ltb-true, ne_eqb}
 pub use Rattle.std.proofs.lemmas.List.{append-nil, append_assoc, drop-drop, drop-take, drop_all, drop_at, ext_get_or, get_or-append_right, get_or-drop, get_or-map, get_or-replicate}
 pub use Rattle.std.proofs.lemmas.List.{get_or-set_other, get_or-set_same, get_or-take, get_or_append_left, get_or_default, length-append, length-drop, length-map, length-replicate}

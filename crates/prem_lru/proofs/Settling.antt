@@ -1,8 +1,8 @@
 -- A line that was just touched is settled: its next touch hits and changes nothing.
+use Rattle.std.proofs.Common.{◌≡◌, ◌≢◌, ℕ, ◌-◌, ◌%◌, ◌<◌, refl, ap, ◌∙◌, sym, subst, cond, ltb, Some, true, false, List, [], ◌∷◌, length, take, get_or}
 use Rattle.prem_lru.proofs.Prelude.{CacheState, set_of, with_set, touched_by, touch_of, IsCache, Entry, ReplacementRule, SetTouch, find_line, has_line, without_line, filled, written_back}
-use Rattle.prem_lru.proofs.Prelude.{last_entry, hit_in, brought_in, replaced, touch_set, to_front, rule_of, IsSettled, Replacement, Lru, Fifo, ◌≡◌, ◌≢◌, ℕ, ◌-◌, ◌%◌, ◌<◌, refl, ap, ◌∙◌, sym}
-use Rattle.prem_lru.proofs.Prelude.{subst, cond, ltb, Some, true, false, List, [], ◌∷◌, length, take, get_or, cond_both, eq-eqb, get_or-set_same, get_or-set_other, length-set, set-get_or}
-use Rattle.prem_lru.proofs.Prelude.{mod_below, slice_set}
+use Rattle.prem_lru.proofs.Prelude.{last_entry, hit_in, brought_in, replaced, touch_set, to_front, rule_of, IsSettled, Replacement, Lru, Fifo, cond_both, eq-eqb, get_or-set_same}
+use Rattle.prem_lru.proofs.Prelude.{get_or-set_other, length-set, set-get_or, mod_below, slice_set}
 use Rattle.prem_lru.proofs.Lookup.{some_of, found_line, find_head, to_front_is}
 use Rattle.prem_lru.proofs.RuleKinds.{kind_rule}
 use Rattle.prem_lru.proofs.Touches.{some_sets, touch_resident}

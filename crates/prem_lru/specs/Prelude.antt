@@ -4,5 +4,3 @@ pub use Rattle.prem_plant.specs.Order.Orders.{AreWays, Orders, order_at, ways_be
 pub use Rattle.prem_plant.specs.Ranges.{IsPlant}
 pub use Rattle.prem_plant.specs.declared.plant.Plant.{Plant}
 pub use Rattle.prem_plant.specs.declared.plant.Replacement.{Replacement}
-pub use Rattle.std.specs.Prelude.{All, Bool, List, None, Option, Some, [], drop, false, if◌then◌else◌, is_some, length, map, nat_lt, option_to_list, replicate, slice_index, slice_index_or}
-pub use Rattle.std.specs.Prelude.{slice_set, suc, take, true, zero, ℕ, ◌%◌, ◌*◌, ◌++◌, ◌+◌, ◌-◌, ◌/◌, ◌<◌, ◌==◌, ◌^◌, ◌∷◌, ◌≡◌, ◌≢◌, ◌≤◌}

@@ -1,6 +1,8 @@
 -- Runs up to where a word may come to a task.
+use Rattle.std.proofs.Common.{◌≡◌, ℕ, ◌+◌, ◌-◌, ◌≤◌, ◌<◌, false, None, Some, Option, true, refl, ap, sym, ◌∙◌, subst, arith, ⊎_elim}
+use Rattle.std.specs.Prelude.{◌==◌, is_some}
 use Rattle.prem_machine.proofs.Prelude.{cycles_of-add, step_of-goes, cycle_of, is_over, stop_of, cycles_of, wants_input_of, rule_in, Trap, RunsSilently, AreSilent, ended_so_far, Running}
-use Rattle.prem_machine.proofs.Prelude.{with_state, ◌≡◌, ℕ, ◌+◌, ◌-◌, ◌≤◌, ◌<◌, false, None, Some, Option, true, refl, ap, sym, ◌∙◌, subst, arith, ⊎_elim, cases_lt, nat_tests, ◌==◌, is_some}
+use Rattle.prem_machine.proofs.Prelude.{with_state, cases_lt, nat_tests}
 use Rattle.prem_machine.proofs.Going.{goes_on}
 use Rattle.prem_machine.proofs.Silence.{cycles_behind}
 

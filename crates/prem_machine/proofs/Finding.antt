@@ -1,10 +1,10 @@
 -- An instruction that finds all its lines leaves memory as it is, and all its touches hit.
+use Rattle.std.proofs.Common.{◌≡◌, ℕ, ◌+◌, ◌≤◌, ◌<◌, ◌-◌, true, false, List, [], ◌∷◌, Option, None, Some, length, map, take, refl, ap, sym, ◌∙◌, subst, cond, arith}
 use Rattle.prem_machine.proofs.Prelude.{Executes, Issued, LineTouch, attempt_in, attempt_seen, issued_with, stored_in, task_after, view_touched, Task, TaskRecord, EffectFits, cost_of}
 use Rattle.prem_machine.proofs.Prelude.{decode_of, fields_of, next_input, UpshotFits, act_of, told_by, Access, Stay, DataLoad, Effect, Done, Stored, Instr, Upshot, Loads, kind_rule}
 use Rattle.prem_machine.proofs.Prelude.{entry_same, CacheState, Touched, is_resident, set_of, touch_of, touched_by, view_of, with_set, Entry, ReplacementRule, brought_in, find_line, hit_in}
 use Rattle.prem_machine.proofs.Prelude.{last_entry, replaced, IsRule, rule_of, ComesTo, IsHit, count_of, hit_of, lines_of, lines_there, stores_in, CanIssue, IsExecuted, cost_at, load_access}
-use Rattle.prem_machine.proofs.Prelude.{load_effect, Plant, number_at, ◌≡◌, ℕ, ◌+◌, ◌≤◌, ◌<◌, ◌-◌, true, false, List, [], ◌∷◌, Option, None, Some, length, map, take, refl, ap, sym, ◌∙◌}
-use Rattle.prem_machine.proofs.Prelude.{subst, cond, arith, nat_lt, is_some, slice_index, slice_index_or, IfSome}
+use Rattle.prem_machine.proofs.Prelude.{load_effect, Plant, number_at, nat_lt, is_some, slice_index, slice_index_or, IfSome}
 use Rattle.prem_isa.specs.declared.effect.AccessKind.TheVariants.{Loads as LoadKind}
 use Rattle.prem_machine.proofs.Hitting.{stays_moved}
 use Rattle.prem_machine.proofs.IssueLemmas.Costs.{Costs, word_costs}

@@ -1,11 +1,11 @@
 -- Instructions that hit, one behind the other, are cycles of the machine.
+use Rattle.std.proofs.Common.{◌≡◌, ℕ, zero, suc, ◌+◌, ◌≤◌, ◌<◌, Bool, false, List, [], ◌∷◌, None, Some, Option, length, map, get_or, refl, ap, sym, ◌∙◌, subst, arith}
 use Rattle.prem_machine.proofs.Prelude.{cycles_of-add, CoreTurn, Issues, core_issue, core_issued, core_turn, is_full, log_size, output_count, Attempt, Executes, Issued, attempt_behind}
 use Rattle.prem_machine.proofs.Prelude.{attempt_in, attempt_of, attempt_seen, issued_with, owed_by, task_after, task_changed, task_moved, view_touched, with_store, with_touch, with_touches}
 use Rattle.prem_machine.proofs.Prelude.{cycles_of, lacks_word, CoreState, Counts, MachineState, Setup, Task, first_task, no_record, record_of, rule_in, task_in, Request, TaskRecord, cost_of}
 use Rattle.prem_machine.proofs.Prelude.{Change, Stay, Effect, Phase, Stored, Instr, Lui, Auipc, Jal, Jalr, Branch, Load, Store, OpImm, Op, MulDiv, Fence, Ecall, Ebreak, PmMem, PmExec, PmEnd}
 use Rattle.prem_machine.proofs.Prelude.{PmDone, PmIn, PmOut, touch_of, view_of, rule_of, HitsAreCycles, IsNext, Leads, here, then_hits, Spot, counts_at, hit_of, spot_in, stores_in, work_at}
-use Rattle.prem_machine.proofs.Prelude.{bus_cycles, AreSilent, IsLone, Plant, ◌≡◌, ℕ, zero, suc, ◌+◌, ◌≤◌, ◌<◌, Bool, false, List, [], ◌∷◌, None, Some, Option, length, map, get_or, refl, ap}
-use Rattle.prem_machine.proofs.Prelude.{sym, ◌∙◌, subst, arith, get_or-set_same, set-get_or, set-set, sum_by-set, slice_set}
+use Rattle.prem_machine.proofs.Prelude.{bus_cycles, AreSilent, IsLone, Plant, get_or-set_same, set-get_or, set-set, sum_by-set, slice_set}
 use Rattle.prem_isa.specs.declared.instr.MulDivOp.{MulDivOp}
 use Rattle.prem_machine.proofs.Lonely.{as_lone, lone_cycles, lone_state}
 use Rattle.prem_machine.proofs.Plainly.{put_more}

@@ -1,7 +1,8 @@
 -- What instructions that hit make of the machine's parts.
+use Rattle.std.proofs.Common.{◌≡◌, ℕ, zero, suc, ◌+◌, ◌*◌, ◌≤◌, ◌<◌, List, [], ◌∷◌, None, All, length, map, get_or, refl, ap, sym, ◌∙◌, subst, arith}
 use Rattle.prem_machine.proofs.Prelude.{log_size, output_count, cycles_of, Task, first_task, no_record, rule_in, task_in, TaskFacts, LiesIn, Request, items_of, room_of, Sequence, LeadsTo}
-use Rattle.prem_machine.proofs.Prelude.{spot_at, state_at, ended_in, put_out, HasRooms, Runs, Stands, state_of, AreSilent, IsLone, setup_in, tasks_in, work_in, Parts, Setting, Works, ◌≡◌, ℕ}
-use Rattle.prem_machine.proofs.Prelude.{zero, suc, ◌+◌, ◌*◌, ◌≤◌, ◌<◌, List, [], ◌∷◌, None, All, length, map, get_or, refl, ap, sym, ◌∙◌, subst, arith, sum_by-cons}
+use Rattle.prem_machine.proofs.Prelude.{spot_at, state_at, ended_in, put_out, HasRooms, Runs, Stands, state_of, AreSilent, IsLone, setup_in, tasks_in, work_in, Parts, Setting, Works}
+use Rattle.prem_machine.proofs.Prelude.{sum_by-cons}
 use Rattle.prem_machine.proofs.Advancing.{rooms_kept, same_state}
 use Rattle.prem_machine.proofs.Arriving.{all_unmap}
 use Rattle.prem_machine.proofs.Hitting.{hits_are_cycles, leads_far, leads_silent, put_there}

@@ -13,8 +13,7 @@ pub use Rattle.prem_cycle.specs.FactsOf.{Report, TaskReport, devices_reported, i
 pub use Rattle.prem_cycle.specs.Inputs.{FitsRun, IsShortTrace, image_run, no_device, setup_of, words_of}
 pub use Rattle.prem_cycle.specs.Issue.{Attempt, Executes, Issued, LineTouch, Traps, attempt_behind, attempt_fetched, attempt_in, attempt_of, attempt_seen, behind_touches, effect_in}
 pub use Rattle.prem_cycle.specs.Issue.{is_execution, is_memory, issued_by, issued_with, one_if, owed_by, stored_in, task_after, task_changed, task_moved, touched_with, value_of, view_behind}
-pub use Rattle.prem_cycle.specs.Issue.{view_touched, with_store, with_touch, with_touches}
-pub use Rattle.prem_cycle.specs.Issue.{attempt_by}
+pub use Rattle.prem_cycle.specs.Issue.{view_touched, with_store, with_touch, with_touches, attempt_by}
 pub use Rattle.prem_cycle.specs.Run.{CycleStep, step_by, step_in, step_with, wants_input_of, wants_word}
 unfoldable pub use Rattle.prem_cycle.specs.Run.{cycles_of}
 pub use Rattle.prem_cycle.specs.Runs.Dull.Dull.{AreDull, IsDull, IsNextEvent}
@@ -120,8 +119,7 @@ pub use Rattle.prem_plant.specs.declared.plant.Target.{Target}
 pub use Rattle.prem_sched.specs.Schedule.{IsReady, IsTask, is_ready, job_ended, no_task, start_of, starts_of, task_at, with_job}
 pub use Rattle.prem_sched.specs.declared.sched.TaskJobs.{TaskJobs}
 pub use Rattle.prem_word.specs.Bytes.{number_at}
-pub use Rattle.std.proofs.Common.{All, Bool, Err, List, None, Ok, Option, Result, Some, [], add-one, ap, arith, cond, drop, drop-cons, eqb, false, get_or, inl, inr, length, map, refl, rules}
-pub use Rattle.std.proofs.Common.{subst, suc, sym, take, true, zero, ℕ, ⊎_elim, ◌%◌, ◌*◌, ◌++◌, ◌+◌, ◌-◌, ◌/◌, ◌<◌, ◌^◌, ◌∙◌, ◌∷◌, ◌≡◌, ◌≢◌, ◌≤◌, ◌⊎◌}
+pub use Rattle.std.proofs.Common.{Option, Some, ap, arith, get_or, length, refl, subst, sym, ℕ, ◌∙◌}
 pub use Rattle.std.proofs.Math.Seq.{map-set_same}
 pub use Rattle.std.proofs.lemmas.Bool.{cases_lt, cond_both, eq-eqb}
 pub use Rattle.std.proofs.lemmas.Bool.Decides.{nat_tests}
@@ -131,5 +129,4 @@ pub use Rattle.std.proofs.lemmas.List.Sums.{sum_by-cons, sum_by-set}
 pub use Rattle.std.proofs.lemmas.Nat.{div-add-mod', le-div, mul-le}
 pub use Rattle.std.specs.Bool.{then_some}
 pub use Rattle.std.specs.List.Sorted.{IsNonDecreasingBy}
-pub use Rattle.std.specs.Prelude.{IfNone, IfSome, IsSome, IsTrue, if◌then◌else◌, is_some, min, nat_le, nat_lt, not, option_map, pos, replicate, slice_get, slice_index, slice_index_or}
-pub use Rattle.std.specs.Prelude.{slice_set, sum_by, unwrap_or, ◌&&◌, ◌==◌, ◌||◌}
+pub use Rattle.std.specs.Prelude.{IfNone, IfSome, IsSome, IsTrue, is_some, min, nat_le, nat_lt, replicate, slice_index, slice_index_or, slice_set}

@@ -1,8 +1,9 @@
 -- An instruction from a line whose touch finds it and changes nothing.
+use Rattle.std.proofs.Common.{◌≡◌, ◌+◌, ◌≤◌, ℕ, Bool, arith, List, [], ◌∷◌, Option, None, Some, refl, ap, sym, ◌∙◌}
 use Rattle.prem_machine.proofs.Prelude.{Executes, Issued, attempt_in, attempt_seen, is_memory, issued_with, one_if, stored_in, task_after, touched_with, view_touched, Task, TaskRecord}
 use Rattle.prem_machine.proofs.Prelude.{load_size, cost_of, decode_of, fields_of, UpshotFits, act_of, told_by, Access, Stay, DataLoad, Effect, Phase, Stored, Instr, Upshot, CacheState}
-use Rattle.prem_machine.proofs.Prelude.{Touched, touch_of, view_of, rule_of, ComesTo, Finds, IsHit, hit_of, stores_in, IsExecuted, cost_at, load_access, load_effect, Plant, number_at, ◌≡◌}
-use Rattle.prem_machine.proofs.Prelude.{◌+◌, ◌≤◌, ℕ, Bool, arith, List, [], ◌∷◌, Option, None, Some, refl, ap, sym, ◌∙◌, slice_index}
+use Rattle.prem_machine.proofs.Prelude.{Touched, touch_of, view_of, rule_of, ComesTo, Finds, IsHit, hit_of, stores_in, IsExecuted, cost_at, load_access, load_effect, Plant, number_at}
+use Rattle.prem_machine.proofs.Prelude.{slice_index}
 use Rattle.prem_machine.proofs.Finding.{comes_to}
 use Rattle.prem_machine.proofs.Hitting.{stays_moved}
 use Rattle.std.specs.Prelude.{◌/◌, ◌%◌, false, true}

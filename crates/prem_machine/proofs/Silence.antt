@@ -1,11 +1,12 @@
 -- In which cycles nothing comes to a task.
+use Rattle.std.proofs.Common.{◌≡◌, ℕ, zero, suc, ◌+◌, ◌-◌, ◌≤◌, ◌<◌, Bool, true, false, cond, List, [], ◌∷◌, None, Some, Option, length, refl, ap, sym, ◌∙◌, subst, arith, ⊎_elim}
+use Rattle.std.specs.Prelude.{nat_le, ◌&&◌}
 use Rattle.prem_machine.proofs.Prelude.{cycles_of-add, step_of-goes, dull_rest, fewer_rest, none_arrives, one_step, steady_later, CoreMove, Passes, Issues, begin_switch, core_issued}
 use Rattle.prem_machine.proofs.Prelude.{core_turn, move_in, move_running, paid_on_bus, want_of, Arrivals, arrivals_at, bus_at, cycle_of, is_full, is_over, move_at, step_of, with_memory}
 use Rattle.prem_machine.proofs.Prelude.{Attempt, Traps, Executes, attempt_of, attempt_seen, behind_touches, CycleStep, cycles_of, step_by, step_in, step_with, wants_input_of, wants_word}
 use Rattle.prem_machine.proofs.Prelude.{AreDull, IsDull, idle_turn, IsSteady, Within, core_rest, mode_rest, passed, running_rest, lacks_word, Setup, Task, Work, Debt, CoreState, Counts}
 use Rattle.prem_machine.proofs.Prelude.{MachineState, task_in, Interval, Mode, Point, Switching, Idle, Turned, bus_turn, wants, Request, Access, Change, Stay, Memory, Execute, End, Job}
-use Rattle.prem_machine.proofs.Prelude.{Effect, Instr, ReplacementRule, bus_cycles, cycles_owed, AreSilent, ended_so_far, IsLone, Target, TaskJobs, ◌≡◌, ℕ, zero, suc, ◌+◌, ◌-◌, ◌≤◌, ◌<◌}
-use Rattle.prem_machine.proofs.Prelude.{Bool, true, false, cond, List, [], ◌∷◌, None, Some, Option, length, refl, ap, sym, ◌∙◌, subst, arith, ⊎_elim, cases_lt, nat_tests, nat_le, ◌&&◌}
+use Rattle.prem_machine.proofs.Prelude.{Effect, Instr, ReplacementRule, bus_cycles, cycles_owed, AreSilent, ended_so_far, IsLone, Target, TaskJobs, cases_lt, nat_tests}
 use Rattle.prem_cycle.specs.declared.state.Mode.TheVariants.{Running}
 use Rattle.prem_machine.proofs.Lonely.{as_lone, issues, lone_state, not_over, owed_state, pays, pays_on_bus}
 

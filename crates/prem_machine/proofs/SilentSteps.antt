@@ -1,8 +1,9 @@
 -- The cycles of instructions that take no input word.
+use Rattle.std.proofs.Common.{◌≡◌, ℕ, ◌+◌, ◌*◌, ◌≤◌, ◌<◌, false, List, Option, None, length, refl, ap, sym, ◌∙◌, subst, arith}
 use Rattle.prem_machine.proofs.Prelude.{is_full, log_size, next_cycle, with_now, LineTouch, attempt_in, attempt_of, owed_by, cycles_of, lacks_word, Log, MachineState, rule_in, task_in}
 use Rattle.prem_machine.proofs.Prelude.{Facts, Mode, Request, next_input, told_by, Access, Effect, Done, Upshot, items_of, view_of, CoreParts, counts_in, put_out, ModeReady, bus_cycles}
 use Rattle.prem_machine.proofs.Prelude.{Runs, Stands, state_of, GoesOn, IsComing, IsKept, AreSilent, ended_so_far, IsLone, attempt_at, core_in, setup_in, work_in, Moment, Parts, Setting}
-use Rattle.prem_machine.proofs.Prelude.{Works, Plant, ◌≡◌, ℕ, ◌+◌, ◌*◌, ◌≤◌, ◌<◌, false, List, Option, None, length, refl, ap, sym, ◌∙◌, subst, arith}
+use Rattle.prem_machine.proofs.Prelude.{Works, Plant}
 use Rattle.prem_cycle.proofs.CycleParts.{settle_keeps}
 use Rattle.prem_machine.proofs.IssueLemmas.Executed.{executed}
 use Rattle.prem_machine.proofs.Silence.{issue_silent, lone_silent, one_is, seen_lacks}

@@ -1,10 +1,11 @@
 -- What one instruction that issues alone makes of the machine's parts.
+use Rattle.std.proofs.Common.{◌≡◌, ℕ, ◌+◌, ◌*◌, ◌-◌, ◌≤◌, ◌<◌, Bool, true, false, List, [], ◌∷◌, None, All, length, refl, ap, sym, ◌∙◌, subst, arith}
+use Rattle.std.specs.Prelude.{nat_le, is_some, ◌||◌}
 use Rattle.prem_machine.proofs.Prelude.{cycles_of-add, step_of-goes, issues_alone, goes_untrapped, CoreTurn, Issues, core_issued, core_turn, is_paid, want_of, is_finished, is_full, is_over}
 use Rattle.prem_machine.proofs.Prelude.{log_size, next_cycle, ticked, devices_reported, LineTouch, owed_by, cycles_of, IssuesAlone, continues, issue_joined, Counts, Log, MachineState, Setup}
 use Rattle.prem_machine.proofs.Prelude.{rule_in, DeviceFacts, Facts, Mode, LiesIn, Held, Request, Stay, items_of, room_of, ReplacementRule, CoreParts, counts_in, dropped_in, log_in, put_out}
 use Rattle.prem_machine.proofs.Prelude.{ModeReady, core_with, bus_cycles, Runs, Stands, state_of, GoesOn, IsKept, AreSilent, IsLone, setup_in, with_counts, work_in, Moment, Parts, Setting}
-use Rattle.prem_machine.proofs.Prelude.{Works, ◌≡◌, ℕ, ◌+◌, ◌*◌, ◌-◌, ◌≤◌, ◌<◌, Bool, true, false, List, [], ◌∷◌, None, All, length, refl, ap, sym, ◌∙◌, subst, arith, nat_tests, nat_le}
-use Rattle.prem_machine.proofs.Prelude.{is_some, ◌||◌}
+use Rattle.prem_machine.proofs.Prelude.{Works, nat_tests}
 use Rattle.prem_machine.proofs.Advancing.{few_kept, rooms_kept, rooms_left, same_state, ticked_went}
 use Rattle.prem_machine.proofs.Lonely.{as_lone, lone_cycles, lone_state}
 use Rattle.prem_machine.proofs.Resting.{arrived_after, counts_more, mode_after, unclashed}

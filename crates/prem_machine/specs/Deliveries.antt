@@ -1,5 +1,6 @@
 -- Runs up to where a word may come to a task.
-use Rattle.prem_machine.specs.Prelude.{stop_of, cycles_of, wants_input_of, rule_in, ◌≡◌, ℕ, ◌+◌, ◌≤◌, ◌<◌, None, Some}
+use Rattle.std.specs.Prelude.{◌≡◌, ℕ, ◌+◌, ◌≤◌, ◌<◌, None, Some}
+use Rattle.prem_machine.specs.Prelude.{stop_of, cycles_of, wants_input_of, rule_in}
 use Rattle.prem_machine.specs.Silent.{ended_so_far}
 use Rattle.prem_machine.specs.States.{Running, with_state}
 use Rattle.prem_machine.specs.declared.machine.deliveries.DeliveryHalt.{DeliveryHalt}

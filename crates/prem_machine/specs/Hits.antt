@@ -1,8 +1,8 @@
 -- Instructions of one task that hit and go on in their interval, one behind the other. Time is in cycles.
+use Rattle.std.specs.Prelude.{◌≡◌, ℕ, suc, ◌+◌, ◌/◌, ◌%◌, ◌<◌, ◌≤◌, true, false, List, [], ◌∷◌, Option, None, Some, IfSome, length, map, slice_index, slice_set}
 use Rattle.prem_machine.specs.Prelude.{log_size, output_count, Executes, LineTouch, attempt_in, attempt_seen, is_memory, issued_with, one_if, task_moved, view_touched, cycles_of, Counts}
 use Rattle.prem_machine.specs.Prelude.{MachineState, Setup, Task, Work, rule_in, task_in, Request, cost_of, decode_of, UpshotFits, act_of, told_by, Access, Stay, Effect, Phase, Instr}
-use Rattle.prem_machine.specs.Prelude.{Upshot, CacheState, is_resident, touch_of, view_of, rule_of, Plant, number_at, ◌≡◌, ℕ, suc, ◌+◌, ◌/◌, ◌%◌, ◌<◌, ◌≤◌, true, false, List, [], ◌∷◌}
-use Rattle.prem_machine.specs.Prelude.{Option, None, Some, IfSome, length, map, slice_index, slice_set}
+use Rattle.prem_machine.specs.Prelude.{Upshot, CacheState, is_resident, touch_of, view_of, rule_of, Plant, number_at}
 use Rattle.prem_isa.specs.declared.effect.Stored.{Stored}
 use Rattle.prem_machine.specs.Stretch.{IsLone}
 

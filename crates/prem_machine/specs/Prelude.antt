@@ -36,5 +36,4 @@ pub use Rattle.prem_plant.specs.declared.plant.Target.{Target}
 pub use Rattle.prem_sched.specs.Schedule.{IsReady, starts_of}
 pub use Rattle.prem_sched.specs.declared.sched.TaskJobs.{TaskJobs}
 pub use Rattle.prem_word.specs.Bytes.{number_at}
-pub use Rattle.std.specs.Prelude.{All, Bool, IfSome, List, None, Option, Some, [], drop, false, if◌then◌else◌, is_some, length, map, min, nat_lt, not, replicate, slice_index, slice_index_or}
-pub use Rattle.std.specs.Prelude.{slice_set, suc, sum_by, take, true, vec_capacity, zero, ℕ, ◌%◌, ◌&&◌, ◌+◌, ◌-◌, ◌/◌, ◌<◌, ◌==◌, ◌^◌, ◌∷◌, ◌≡◌, ◌≢◌, ◌≤◌}
+pub use Rattle.std.specs.Prelude.{List, ℕ}

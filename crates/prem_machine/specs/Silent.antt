@@ -1,5 +1,6 @@
 -- Cycles in which nothing comes to a task: no `pm.in` issues with its input words used up, and no transfer ends.
-use Rattle.prem_machine.specs.Prelude.{cycles_of, wants_input_of, Setup, MachineState, Request, ReplacementRule, ◌≡◌, ℕ, ◌≤◌, ◌<◌, List, None, length}
+use Rattle.std.specs.Prelude.{◌≡◌, ℕ, ◌≤◌, ◌<◌, List, None, length}
+use Rattle.prem_machine.specs.Prelude.{cycles_of, wants_input_of, Setup, MachineState, Request, ReplacementRule}
 
 -- the transfers that have ended so far
 abbrev pub ended_so_far : MachineState → ℕ

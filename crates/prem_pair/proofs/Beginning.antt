@@ -1,6 +1,7 @@
 -- Two cores before their first cycle.
+use Rattle.std.proofs.Common.{◌≡◌, ◌*◌, List, ap, sym, ◌∙◌, subst}
 use Rattle.prem_pair.proofs.Prelude.{image_run, setup_of, words_of, cycles_of, rule_in, MachineState, GatesState, Request, items_of, runs_first, state_first, state_of, Parts, GoOn, pair_of}
-use Rattle.prem_pair.proofs.Prelude.{PairState, pair_cycles, pair_run, Arrives, Nobody, ◌≡◌, ◌*◌, List, ap, sym, ◌∙◌, subst}
+use Rattle.prem_pair.proofs.Prelude.{PairState, pair_cycles, pair_run, Arrives, Nobody}
 use Rattle.prem_gate.specs.declared.request.RunInput.{RunInput}
 use Rattle.prem_image.specs.declared.image.Image.{Image}
 use Rattle.prem_machine.specs.Parts.{Runs}

@@ -1,9 +1,10 @@
 -- How the parts of a cycle make up the cycle of two cores.
+use Rattle.std.proofs.Common.{◌≡◌, ◌≢◌, ℕ, ◌+◌, refl, ap, ◌∙◌, sym, arith, cond, leb, Some, None, Option, true, false, Bool, List, subst}
+use Rattle.std.specs.Prelude.{◌&&◌, is_some}
 use Rattle.prem_pair.proofs.Prelude.{want_of, Arrivals, arrivals_at, with_clash, Setup, rule_in, Counts, MachineState, CoreState, GatesState, Turned, startable, taken, ends, goes_on}
 use Rattle.prem_pair.proofs.Prelude.{carries, starts, bus_free, bus_with, bus_turn, wants, Carried, CoreWant, No, New, Held, Window, Request, holder_in, bus_in, PairState, bus_first}
 use Rattle.prem_pair.proofs.Prelude.{first_acted, second_acted, ended_in_place, both_ticked, second_done, pair_cycle, holder_after, is_first, is_second, window_given, want_with, bus_done}
-use Rattle.prem_pair.proofs.Prelude.{core_done, move_had, Holder, Nobody, First, Second, Gates, ◌≡◌, ◌≢◌, ℕ, ◌+◌, refl, ap, ◌∙◌, sym, arith, cond, leb, Some, None, Option, true, false, Bool}
-use Rattle.prem_pair.proofs.Prelude.{List, subst, cond_both, ◌&&◌, is_some}
+use Rattle.prem_pair.proofs.Prelude.{core_done, move_had, Holder, Nobody, First, Second, Gates, cond_both}
 
 -- ---- the cores
 

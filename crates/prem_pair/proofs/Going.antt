@@ -1,7 +1,8 @@
 -- A run of two cores that goes on until it stops.
+use Rattle.std.proofs.Common.{◌≡◌, ℕ, ◌+◌, ◌*◌, ◌-◌, ◌<◌, ◌≤◌, Bool, true, false, cond, Option, Some, None, refl, ap, sym, ◌∙◌, arith, ◌⊎◌, inl, inr}
+use Rattle.std.specs.Prelude.{◌==◌, ◌||◌, ◌&&◌, is_some, if◌then◌else◌}
 use Rattle.prem_pair.proofs.Prelude.{is_full, log_size, rule_in, Trap, PairState, both_finished, full_stop, is_pair_over, one_trapped, pair_cycle, pair_cycles, pair_step, pair_stop_of}
-use Rattle.prem_pair.proofs.Prelude.{trap_stop, cycles_taken, PairRunning, with_state, PairStop, Finished, LogFull, Limit, ◌≡◌, ℕ, ◌+◌, ◌*◌, ◌-◌, ◌<◌, ◌≤◌, Bool, true, false, cond, Option}
-use Rattle.prem_pair.proofs.Prelude.{Some, None, refl, ap, sym, ◌∙◌, arith, ◌⊎◌, inl, inr, nat_tests, ◌==◌, ◌||◌, ◌&&◌, is_some, if◌then◌else◌}
+use Rattle.prem_pair.proofs.Prelude.{trap_stop, cycles_taken, PairRunning, with_state, PairStop, Finished, LogFull, Limit, nat_tests}
 use Rattle.prem_machine.proofs.Going.{going_most}
 use Rattle.prem_pair.proofs.CyclesLemmas.PairRuns.{pair_cycles-add, pair_cycles-over}
 use Rattle.std.specs.Bool.{then_some}

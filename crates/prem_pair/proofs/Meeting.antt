@@ -1,7 +1,8 @@
 -- What arrivals, the token and the bus come to.
+use Rattle.std.proofs.Common.{◌≡◌, ◌≢◌, ℕ, zero, suc, ◌+◌, refl, ap, ◌∙◌, arith, cond, leb, Some, None, Option, true, false, Bool, List, [], ◌∷◌}
+use Rattle.std.specs.Prelude.{◌&&◌}
 use Rattle.prem_pair.proofs.Prelude.{GateState, GatesState, fits, start_of, first_of, startable_from, startable, bus_with, bus_turn, wants, Carried, CoreWant, No, New, Held, Window, Request}
-use Rattle.prem_pair.proofs.Prelude.{holder_with, empty_window, window_given, want_with, two_want, is_gates, Holder, Nobody, First, Second, Gates, ◌≡◌, ◌≢◌, ℕ, zero, suc, ◌+◌, refl, ap, ◌∙◌}
-use Rattle.prem_pair.proofs.Prelude.{arith, cond, leb, Some, None, Option, true, false, Bool, List, [], ◌∷◌, lt-leb, ◌&&◌}
+use Rattle.prem_pair.proofs.Prelude.{holder_with, empty_window, window_given, want_with, two_want, is_gates, Holder, Nobody, First, Second, Gates, lt-leb}
 
 pub same_bus : (now : ℕ) (before h h' : Holder) (w : Window) (v x y x' y' : CoreWant) (g g' : GatesState) (memory : List ℕ) → h ≡ h' →
     w ≡ window_given now before h → v ≡ want_with h x y → x ≡ x' → y ≡ y' → g ≡ g' →

@@ -1,9 +1,10 @@
 -- A core's parts behind a cycle of its own.
+use Rattle.std.proofs.Common.{◌≡◌, ◌≢◌, ℕ, zero, suc, ◌+◌, ◌-◌, ◌*◌, ◌≤◌, ◌<◌, Bool, true, false, List, [], None, refl, ap, sym, ◌∙◌, subst, arith, All, length}
+use Rattle.std.specs.Prelude.{nat_le, ◌||◌, ◌&&◌, if◌then◌else◌}
 use Rattle.prem_pair.proofs.Prelude.{paid_on_bus, want_of, core_issued, is_full, log_size, LineTouch, owed_by, Debt, no_debt, rule_in, Mode, wants, is_new, CoreWant, No, New, Held, Request}
 use Rattle.prem_pair.proofs.Prelude.{Stay, items_of, same_state, counts_more, mode_after, behind, full_told, CoreParts, paid_once, counts_in, put_out, ModeReady, core_with, Stands, state_of}
 use Rattle.prem_pair.proofs.Prelude.{IsNextArrival, GoesOn, IsKept, setup_in, work_in, Moment, Parts, Setting, IsGoing, OwnCycle, OwnRun, no_cycle, one_more, PairState, clashes, stays_with}
-use Rattle.prem_pair.proofs.Prelude.{wanted, is_gates, two_want, MayStretch, Arrives, Goes, Holder, Nobody, First, Second, Gates, ◌≡◌, ◌≢◌, ℕ, zero, suc, ◌+◌, ◌-◌, ◌*◌, ◌≤◌, ◌<◌, Bool, true}
-use Rattle.prem_pair.proofs.Prelude.{false, List, [], None, refl, ap, sym, ◌∙◌, subst, arith, All, length, nat_tests, nat_le, ◌||◌, ◌&&◌, if◌then◌else◌}
+use Rattle.prem_pair.proofs.Prelude.{wanted, is_gates, two_want, MayStretch, Arrives, Goes, Holder, Nobody, First, Second, Gates, nat_tests}
 use Rattle.prem_cycle.specs.declared.facts.Facts.{Facts}
 use Rattle.prem_machine.specs.declared.work.Works.{Works}
 use Rattle.prem_pair.proofs.CyclesLemmas.Own.{as_going, going_state, issue_own, pay_own}

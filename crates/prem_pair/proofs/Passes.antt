@@ -1,8 +1,9 @@
 -- How far two cores rest, and what their parts keep where cycles are passed over.
+use Rattle.std.proofs.Common.{◌≡◌, ℕ, ◌+◌, ◌-◌, ◌*◌, ◌≤◌, true, false, List, ap, sym, ◌∙◌, subst, arith, All, length}
 use Rattle.prem_pair.proofs.Prelude.{NoneArrive, GateState, GatesState, HasLine, LiesIn, IsNextChange, Request, items_of, SameQueues, arrived_after, counts_more, mode_after, core_within}
 use Rattle.prem_pair.proofs.Prelude.{less_arrive, behind_within, behind_from, CoreParts, counts_in, dropped_in, ModeReady, Stands, IsNextArrival, cycle_behind, Moment, Parts, Setting}
 use Rattle.prem_pair.proofs.Prelude.{AreBoth, GoOn, pair_of, PairState, is_pair_over, IsSteadyPair, PairRests, rest_with, stays_with, wanted, empty_window, is_first, is_second, Arrives}
-use Rattle.prem_pair.proofs.Prelude.{Goes, Both, ◌≡◌, ℕ, ◌+◌, ◌-◌, ◌*◌, ◌≤◌, true, false, List, ap, sym, ◌∙◌, subst, arith, All, length}
+use Rattle.prem_pair.proofs.Prelude.{Goes, Both}
 use Rattle.prem_cycle.specs.declared.state.Interval.{Interval}
 
 -- ---- how far both rest

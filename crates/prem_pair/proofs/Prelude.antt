@@ -101,11 +101,10 @@ pub use Rattle.prem_sound.specs.Script.Script.{Script}
 pub use Rattle.prem_sound.specs.Script.Scripts.{AreKept, AreScripts, Promise, last_release}
 pub use Rattle.prem_sound.specs.Serve.Requests.{AreAmong, GetsLastPuts, PutWords, asked_before, asked_of, carried_of, found_room, held_of, transferred_of}
 pub use Rattle.prem_sound.specs.Sound.{HasScripts, IsRun}
-pub use Rattle.std.proofs.Common.{All, Bool, IfSome, List, None, Option, Some, [], ap, arith, cond, drop, eqb, false, get_or, inl, inr, leb, length, ltb, map, refl, subst, suc, sym, true}
-pub use Rattle.std.proofs.Common.{zero, ℕ, ⊎_elim, ◌*◌, ◌++◌, ◌+◌, ◌-◌, ◌/◌, ◌<◌, ◌∙◌, ◌∷◌, ◌≡◌, ◌≢◌, ◌≤◌, ◌⊎◌}
+pub use Rattle.std.proofs.Common.{ap, sym, ◌∙◌}
 pub use Rattle.std.proofs.lemmas.Bool.{cases_Bool, cases_eq, cases_lt, cond_both, eq-eqb, le-leb, le-ltb, leb-false, lt-leb, lt-ltb, ne_eqb}
 pub use Rattle.std.proofs.lemmas.Bool.Decides.{nat_tests}
 pub use Rattle.std.proofs.lemmas.List.{append-nil, append_assoc, get_or-set_other, get_or-set_same, length-set, with_items_is}
 pub use Rattle.std.proofs.lemmas.List.Elements.{All-head, All-nil, All-tail, filter-append}
 pub use Rattle.std.proofs.lemmas.List.Sums.{sum_by-append, sum_by-cons, sum_by-set}
-pub use Rattle.std.specs.Prelude.{IfNone, IsSome, if◌then◌else◌, is_some, max, min, nat_le, nat_lt, not, slice_get, slice_index_or, slice_set, sum_by, ◌&&◌, ◌==◌, ◌||◌}
+pub use Rattle.std.specs.Prelude.{IfNone, IsSome, is_some, max, min, slice_index_or}

@@ -1,8 +1,9 @@
 -- One core that runs while the other rests.
+use Rattle.std.proofs.Common.{◌≡◌, ℕ, zero, ◌-◌, ◌≤◌, Bool, true, false, List, refl, ap, sym, ◌∙◌, arith}
+use Rattle.std.specs.Prelude.{◌&&◌, ◌||◌}
 use Rattle.prem_pair.proofs.Prelude.{not_ended, want_of, is_finished, is_finished_in, is_full, Within, Debt, Setup, MachineState, wants, No, Request, ReplacementRule, less_arrive, IsGoing}
 use Rattle.prem_pair.proofs.Prelude.{MayRunApart, OwnRun, PairState, both_finished, is_pair_over, one_trapped, pair_cycles, IsSteadyPair, rest_with, side_passed, stays_with, frees, is_first}
-use Rattle.prem_pair.proofs.Prelude.{is_second, want_with, MayStretch, Holder, Nobody, First, Second, Gates, ◌≡◌, ℕ, zero, ◌-◌, ◌≤◌, Bool, true, false, List, refl, ap, sym, ◌∙◌, arith, ◌&&◌}
-use Rattle.prem_pair.proofs.Prelude.{◌||◌}
+use Rattle.prem_pair.proofs.Prelude.{is_second, want_with, MayStretch, Holder, Nobody, First, Second, Gates}
 use Rattle.prem_pair.proofs.CyclesLemmas.OneCycle.{paired}
 use Rattle.prem_pair.proofs.CyclesLemmas.Own.{own_runs, rest_own}
 use Rattle.prem_pair.proofs.CyclesLemmas.Rests.{unnot, untrapped}

@@ -1,9 +1,10 @@
 -- Two cores that run side by side.
+use Rattle.std.proofs.Common.{◌≡◌, ◌≢◌, ℕ, suc, ◌+◌, ◌-◌, ◌≤◌, ◌<◌, Bool, true, false, List, [], None, refl, ap, sym, ◌∙◌, arith, length}
+use Rattle.std.specs.Prelude.{◌&&◌, ◌||◌, if◌then◌else◌}
 use Rattle.prem_pair.proofs.Prelude.{want_of, is_finished, is_full, log_size, Counts, Setup, MachineState, rule_in, is_held, wants, No, New, Request, items_of, ReplacementRule, unclashed}
 use Rattle.prem_pair.proofs.Prelude.{has_room, put_out, state_of, setup_in, Parts, Setting, AreBoth, GoOn, pair_of, AreApart, own_cycle, own_part, IsGoing, OwnCycle, PairState}
 use Rattle.prem_pair.proofs.Prelude.{both_finished, is_pair_over, one_trapped, pair_cycle, pair_cycles, wanted, holder_after, is_first, is_second, want_with, MayStretch, cycles_taken}
-use Rattle.prem_pair.proofs.Prelude.{Arrives, core_done, move_had, Both, Holder, Nobody, First, Second, Gates, ◌≡◌, ◌≢◌, ℕ, suc, ◌+◌, ◌-◌, ◌≤◌, ◌<◌, Bool, true, false, List, [], None, refl}
-use Rattle.prem_pair.proofs.Prelude.{ap, sym, ◌∙◌, arith, length, ◌&&◌, ◌||◌, if◌then◌else◌}
+use Rattle.prem_pair.proofs.Prelude.{Arrives, core_done, move_had, Both, Holder, Nobody, First, Second, Gates}
 use Rattle.prem_pair.proofs.CyclesLemmas.Apart.{own_cycles}
 use Rattle.prem_pair.proofs.CyclesLemmas.OneCycle.{paired}
 use Rattle.prem_pair.proofs.CyclesLemmas.Own.{holder_same, own_kept, own_one, stays_later}

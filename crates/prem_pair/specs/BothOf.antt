@@ -1,5 +1,6 @@
 -- Both cores' parts as the state of a run.
-use Rattle.prem_pair.specs.Prelude.{arrivals_at, Turned, Request, Stands, state_of, ◌≡◌, ◌≢◌, ◌*◌, None, List, []}
+use Rattle.std.specs.Prelude.{◌≡◌, ◌≢◌, ◌*◌, None, List, []}
+use Rattle.prem_pair.specs.Prelude.{arrivals_at, Turned, Request, Stands, state_of}
 use Rattle.prem_machine.specs.declared.work.Setting.{Setting}
 use Rattle.prem_pair.specs.Cycles.Pair.{PairState, holder_at, bus_for}
 use Rattle.prem_pair.specs.Sides.{Goes, Arrives}

@@ -1,5 +1,6 @@
 -- Up to when two cores don't touch each other. Time is in cycles.
-use Rattle.prem_pair.specs.Prelude.{want_of, NoneArrive, wants, New, Request, ◌≡◌, ◌≢◌, ℕ, ◌+◌, ◌-◌, ◌≤◌, ◌&&◌, true, false, List, if◌then◌else◌}
+use Rattle.std.specs.Prelude.{◌≡◌, ◌≢◌, ℕ, ◌+◌, ◌-◌, ◌≤◌, ◌&&◌, true, false, List, if◌then◌else◌}
+use Rattle.prem_pair.specs.Prelude.{want_of, NoneArrive, wants, New, Request}
 use Rattle.prem_pair.specs.Cycles.Pair.{PairState, one_trapped}
 use Rattle.prem_pair.specs.Cycles.Rest.{stays_with, wanted}
 use Rattle.prem_pair.specs.declared.cycles.state.Holder.TheVariants.{Gates}

@@ -1,5 +1,6 @@
 -- The fields of a run of two cores, and what they keep.
-use Rattle.prem_pair.specs.Prelude.{IsSetting, ◌≡◌, ◌^◌, ◌≤◌, [], false}
+use Rattle.std.specs.Prelude.{◌≡◌, ◌^◌, ◌≤◌, [], false}
+use Rattle.prem_pair.specs.Prelude.{IsSetting}
 use Rattle.prem_machine.specs.Work.{setup_in}
 use Rattle.prem_pair.specs.BothOf.{AreBoth, GoOn, pair_of}
 use Rattle.prem_pair.specs.Cycles.Pair.{one_trapped}

@@ -15,5 +15,4 @@ pub use Rattle.prem_isa.specs.declared.effect.Change.TheVariants.{End, Execute, 
 pub use Rattle.prem_lru.specs.Entries.{ReplacementRule}
 pub use Rattle.prem_machine.specs.Parts.{IsSetting, Stands, state_of}
 pub use Rattle.prem_sched.specs.declared.sched.TaskJobs.{TaskJobs}
-pub use Rattle.std.specs.Prelude.{All, Bool, List, None, Option, Some, [], false, if◌then◌else◌, is_some, length, max, not, slice_index_or, suc, sum_by, true, zero, ℕ, ◌&&◌, ◌*◌, ◌++◌, ◌+◌}
-pub use Rattle.std.specs.Prelude.{◌-◌, ◌<◌, ◌==◌, ◌^◌, ◌||◌, ◌∷◌, ◌≡◌, ◌≢◌, ◌≤◌}
+pub use Rattle.std.specs.Prelude.{List, None, Option, Some, suc, zero, ℕ}

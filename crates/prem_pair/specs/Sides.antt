@@ -1,6 +1,7 @@
 -- A core's parts in a cycle of two cores: what the bus leaves, and what the core does.
+use Rattle.std.specs.Prelude.{ℕ, ◌+◌, ◌≤◌, ◌&&◌, not, Bool, All, List, length, if◌then◌else◌}
 use Rattle.prem_pair.specs.Prelude.{CoreMove, Passes, core_turn, move_of, Arrivals, with_memory, with_clash, Setup, rule_in, Work, CoreState, MachineState, Turned, Request, with_last}
-use Rattle.prem_pair.specs.Prelude.{TaskJobs, ℕ, ◌+◌, ◌≤◌, ◌&&◌, not, Bool, All, List, length, if◌then◌else◌}
+use Rattle.prem_pair.specs.Prelude.{TaskJobs}
 use Rattle.prem_list.specs.Sequence.{items_of}
 use Rattle.prem_machine.specs.Issue.Counting.{counts_in}
 use Rattle.prem_machine.specs.Log.{CountsWithin}

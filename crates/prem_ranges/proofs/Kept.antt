@@ -1,4 +1,6 @@
 -- All ranges lie in their kinds, and so no loop has more turns than there are ints.
+use Rattle.std.proofs.Common.{◌≡◌, ℕ, zero, suc, ◌+◌, ◌-◌, ◌*◌, ◌/◌, ◌^◌, ◌<◌, ◌≤◌, Bool, true, false, cond, List, [], ◌∷◌, ◌++◌, map, refl, sym, ◌∙◌, arith, Option, None, Some, eqb, ⊎_elim}
+use Rattle.std.specs.Prelude.{⊤, ℤ, pos, negsuc, ◌+ℤ◌, ◌-ℤ◌, ◌≤ℤ◌, int_le, unsigned_abs, ◌||◌, slice_get, slice_index, unwrap_or}
 use Rattle.prem_ranges.proofs.Prelude.{assigns, in_counting, loop_end, turn_bound, body_range, range_behind, in_body, behind_loop, in_while, behind_call, after, bounds, known_parameter}
 use Rattle.prem_ranges.proofs.Prelude.{known_local, declared, at_body, bounds_in, Known, any_again, with_range, assigned, Environment, range_at, at_local, loosened, joined, in_term}
 use Rattle.prem_ranges.proofs.Prelude.{in_range_of_int, in_turns, in_counting_loop, in_steps, in_arguments, in_scalar, in_element, parameters_of, in_locals, in_result, in_routine}
@@ -7,9 +9,7 @@ use Rattle.prem_ranges.proofs.Prelude.{Ranged, none_ranged, next_ranged, TypedLo
 use Rattle.prem_ranges.proofs.Prelude.{AndAlso, OrElse, Steps, Done, SetLocal, SetScalar, SetElement, Output, Input, If, For, While, Call, Routine, Resolved, LocalVariable, GlobalVariable}
 use Rattle.prem_ranges.proofs.Prelude.{Ty, Void, Short, Ushort, Schar, Uchar, Neg, Flip, Not, word_in_whole, whole_kept, within_kept, truths_kept, range_kept, negate_kept, flip_kept}
 use Rattle.prem_ranges.proofs.Prelude.{join_kept, converted_kept, Span, from_to, exactly, LiesIn, IsRange, whole, unless_empty, converted, value_in, BinOp, Lt, Le, Gt, Ge, Eq, Kind, Int}
-use Rattle.prem_ranges.proofs.Prelude.{Unsigned, ◌≡◌, ℕ, zero, suc, ◌+◌, ◌-◌, ◌*◌, ◌/◌, ◌^◌, ◌<◌, ◌≤◌, Bool, true, false, cond, List, [], ◌∷◌, ◌++◌, map, refl, sym, ◌∙◌, arith, Option, None}
-use Rattle.prem_ranges.proofs.Prelude.{Some, eqb, ⊎_elim, mul-le-mul_left, mul-le-mul_right, cases_lt, ints, clamps, map-append, int_max, flat_map, ⊤, ℤ, pos, negsuc, ◌+ℤ◌, ◌-ℤ◌, ◌≤ℤ◌}
-use Rattle.prem_ranges.proofs.Prelude.{int_le, unsigned_abs, ◌||◌, slice_get, slice_index, unwrap_or}
+use Rattle.prem_ranges.proofs.Prelude.{Unsigned, mul-le-mul_left, mul-le-mul_right, cases_lt, ints, clamps, map-append, int_max, flat_map}
 use Rattle.prem_ranges.proofs.Basics.{none_left, none_right, unbroken as unbroken_is, is_at_most, is_above, is_not_below}
 use Rattle.prem_ranges.proofs.Environments.{kinds-at_local, kinds-loosened, kinds-joined, kind_known}
 use Rattle.prem_ranges.proofs.Expressions.{kinds-refined}

@@ -58,8 +58,6 @@ pub use Rattle.prem_word.specs.declared.kind.BinOp.{BinOp}
 pub use Rattle.prem_word.specs.declared.kind.BinOp.TheVariants.{Add, And, Div, Eq, Ge, Gt, Le, Lt, Mul, Ne, Or, Rem, Shl, Shr, Sub, Xor}
 pub use Rattle.prem_word.specs.declared.kind.Kind.{Kind}
 pub use Rattle.prem_word.specs.declared.kind.Kind.TheVariants.{Int, Unsigned}
-pub use Rattle.std.proofs.Common.{Bool, Err, List, None, Ok, Option, Some, [], ap, arith, cond, eqb, false, get_or, inl, inr, is_none, is_some, length, map, max, min, nat_lt, refl}
-pub use Rattle.std.proofs.Common.{replicate, subst, suc, sym, take, true, zero, ℕ, ⊎_elim, ◌%◌, ◌*◌, ◌++◌, ◌+◌, ◌-◌, ◌/◌, ◌<◌, ◌==◌, ◌^◌, ◌∙◌, ◌∷◌, ◌≡◌, ◌≤◌, ◌⊎◌}
 pub use Rattle.std.proofs.Math.Nat.{mul-le-mul_left, mul-le-mul_right, mul_assoc}
 pub use Rattle.std.proofs.lemmas.Bool.{and_parts, both_ways, cases_eq, cases_lt, eqb-false, eqb-true, or_parts}
 pub use Rattle.std.proofs.lemmas.Bool.Decides.{Decides-int_eq, nat_tests}
@@ -71,6 +69,5 @@ pub use Rattle.std.specs.Int.{cast_signed, int_max, int_min, w16, w32, w8}
 unfoldable pub use Rattle.std.specs.Int.{int_wrap}
 pub use Rattle.std.specs.List.{flat_map, list_any, range_with_len}
 pub use Rattle.std.specs.Option.{option_map}
-pub use Rattle.std.specs.Prelude.{IsTrue, codes, int_le, int_lt, nat_le, neg_ℤ, negsuc, not, pos, slice_get, slice_index, slice_index_or, slice_set, unsigned_abs, unwrap_or, ℤ, ⊤, ◌&&◌}
-pub use Rattle.std.specs.Prelude.{◌+ℤ◌, ◌-ℤ◌, ◌<ℤ◌, ◌||◌, ◌≤ℤ◌}
+pub use Rattle.std.specs.Prelude.{IsTrue, codes, negsuc, not, pos, slice_get, slice_index, slice_set, unwrap_or, ℤ, ⊤}
 pub use Rattle.std.specs.Str.{bytes_eq}

@@ -138,9 +138,8 @@ pub use Rattle.prem_ranges.proofs.Watches.{Ordered, callees_of, either_list, rea
 pub use Rattle.prem_ranges.proofs.WellFormed.{has_job, not_no, well_formed_is_typed}
 pub use Rattle.prem_ranges.specs.After.{at_body, declared, known_local, known_parameter}
 pub use Rattle.prem_ranges.specs.RangeBreaches.{length_of}
-pub use Rattle.prem_ranges.specs.RangesKept.{limits_of, resolved}
+pub use Rattle.prem_ranges.specs.RangesKept.{limits_of, resolved, bounded}
 unfoldable pub use Rattle.prem_ranges.specs.RangesKept.{first_range_breach, turn_bounds}
-pub use Rattle.prem_ranges.specs.RangesKept.{bounded}
 pub use Rattle.prem_ranges.specs.Sound.{AlikeRoutines, AllTyped, AreWords, HasGlobal, IsCall, IsOperator, Typed, TypedLocals, TypedProgram, TypedResult, TypedSteps, kinds_of, next_routine}
 pub use Rattle.prem_ranges.specs.Sound.{no_routines}
 pub use Rattle.prem_sets_sound.specs.ImagePremises.Accepted.{AcceptedSetsAreLaidOut, AcceptedSetsAreSound, AcceptedSetsJoin, AcceptedTasksKeepRules, DefaultPlacesAreLawful, HasCodedValues}
@@ -168,8 +167,8 @@ pub use Rattle.prem_sets_sound.specs.StubLaws.JobWeave.Owned.{OwnWovenTo, own_wa
 pub use Rattle.prem_sets_sound.specs.StubLaws.JoinedRuns.Joined.{IsJoined, JobLimits, JoinedImagesAreSound, JoinedRunsEnd, TaskJoins}
 pub use Rattle.prem_sets_sound.specs.StubLaws.Own.Owned.{HasCode, IsPartOf, OwnBytesAreApart, OwnBytesAreFree, PartsAreOwn, is_held, own_of, owns_first, setup_of}
 pub use Rattle.prem_sets_sound.specs.StubLaws.OwnSteps.OwnSteps.{AreOwnAt, CallsAreOwn, CodeIsOwn, FunctionsTake, OwnBytes, StubsAreOwn}
-pub use Rattle.prem_sets_sound.specs.StubLaws.StretchLengths.Strided.{CalmRunsAreStrided, FallsStrided, FunctionsReturnLast, GoesOn, IsStrided, PartStrided, PartsAreStrided, PlacedJobsAreStrided}
-pub use Rattle.prem_sets_sound.specs.StubLaws.StretchLengths.Strided.{ReturnsLast, ReturnsStrided, sums_in}
+pub use Rattle.prem_sets_sound.specs.StubLaws.StretchLengths.Strided.{CalmRunsAreStrided, FallsStrided, FunctionsReturnLast, GoesOn, IsStrided, PartStrided, PartsAreStrided}
+pub use Rattle.prem_sets_sound.specs.StubLaws.StretchLengths.Strided.{PlacedJobsAreStrided, ReturnsLast, ReturnsStrided, sums_in}
 pub use Rattle.prem_sets_sound.specs.StubLaws.StubFits.Costs.{CostsAreBounded, IsOf, StubsFitTheirLength}
 pub use Rattle.prem_sets_sound.specs.StubLaws.StubFits.Within.{StubNumbersAgree, StubsAreWithin, any_holds, codes_in, guard_of, pieces_or, reached_in}
 pub use Rattle.prem_sets_sound.specs.StubLaws.StubWeave.StubWeave.{StubAt, StubStands, StubsLandWoven}
@@ -227,8 +226,7 @@ pub use Rattle.prem_syntax.specs.Resolve.{resolve, resolve_function, resolve_ite
 pub use Rattle.prem_syntax.specs.Resolved.{AndAlso, Binary, Call, Constant, Done, Element, For, If, Input, OrElse, Output, Resolved, Routine, SetElement, SetLocal, SetScalar, Steps, Term}
 pub use Rattle.prem_syntax.specs.Resolved.{Unary, While}
 pub use Rattle.prem_syntax.specs.Rules.{CallOrder, Limit, LoopForm, NoJob, OfTypes, Rule, SystemCall, Twice}
-pub use Rattle.prem_syntax.specs.Source.{Limits, access_of, calls_below, constants_of, do_jobs, enter_if_there, everywhere, initial_words, source, this_or, unlimited}
-pub use Rattle.prem_syntax.specs.Source.{start}
+pub use Rattle.prem_syntax.specs.Source.{Limits, access_of, calls_below, constants_of, do_jobs, enter_if_there, everywhere, initial_words, source, this_or, unlimited, start}
 pub use Rattle.prem_syntax.specs.Statements.{MarkedCall, ProgramState, choose, declare, enter, int_local, is_marked, leave, loop_step, loop_test, result_of, store, stored, take_input, value}
 pub use Rattle.prem_syntax.specs.Statements.{values, with_cell, with_local, with_mark, with_new_local, with_output, with_target}
 unfoldable pub use Rattle.prem_syntax.specs.Statements.{counting}
@@ -252,9 +250,7 @@ pub use Rattle.prem_word.specs.Bytes.{number_at}
 pub use Rattle.prem_word.specs.declared.kind.BinOp.{BinOp}
 pub use Rattle.prem_word.specs.declared.kind.BinOp.TheVariants.{Add, And, Div, Eq, Ge, Gt, Le, Lt, Mul, Ne, Or, Rem, Shl, Shr, Sub, Xor}
 pub use Rattle.prem_word.specs.declared.kind.Kind.{Kind}
-pub use Rattle.std.proofs.Common.{Bool, Err, IfSome, List, None, Ok, Option, Result, Some, [], ap, append-nil, append_assoc, arith, cond, drop, eqb, false, get_or, inl, inr, leb, length}
-pub use Rattle.std.proofs.Common.{length-append, lit<, lit≤, ltb, map, max, not, refl, set, slice_get, subst, suc, sym, take, true, true≢false, zero, ℕ, ⊎_elim, ◌%◌, ◌*◌, ◌++◌, ◌+◌, ◌-◌}
-pub use Rattle.std.proofs.Common.{◌/◌, ◌<◌, ◌^◌, ◌∙◌, ◌∷◌, ◌≡◌, ◌≢◌, ◌≤◌, ◌⊎◌}
+pub use Rattle.std.proofs.Common.{inl, inr, length, map, refl, suc, zero}
 pub use Rattle.std.proofs.Math.Bool.{or-true}
 pub use Rattle.std.proofs.Math.Nat.{div-mul-le_self, mod-lt, mul-div_cancel, mul-le-mul_right, mul_comm, suc-mul}
 pub use Rattle.std.proofs.lemmas.Bool.{and_from, and_parts, cases_eq, cases_lt, cond-true, cond_both, eq-eqb, eqb-false, eqb-true, le-leb, le-ltb, leb-false, leb-true, lt-ltb, ltb-false}
@@ -269,6 +265,5 @@ pub use Rattle.std.proofs.lemmas.Option.{get_or_from_slice_get, slice_get-get_or
 pub use Rattle.std.specs.Int.{next_multiple_of, to_le_bytes, w32}
 pub use Rattle.std.specs.List.{AllByRecursion, concat, flat_map, list_any}
 pub use Rattle.std.specs.Option.{option_map}
-pub use Rattle.std.specs.Prelude.{All, IsTrue, codes, filter, if◌then◌else◌, int_le, int_lt, is_none, is_some, nat_le, nat_lt, pos, replicate, slice_index, slice_index_or, unwrap_or, ℤ, ⊤}
-pub use Rattle.std.specs.Prelude.{◌&&◌, ◌+ℤ◌, ◌==◌, ◌||◌}
+pub use Rattle.std.specs.Prelude.{All, IsTrue, codes, filter, int_le, is_none, is_some, nat_le, nat_lt, pos, replicate, slice_index, slice_index_or, unwrap_or, ℤ}
 pub use Rattle.std.specs.Str.{bytes_eq}

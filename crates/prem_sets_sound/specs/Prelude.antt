@@ -78,6 +78,4 @@ pub use Rattle.prem_tasks.specs.Lawful.{AreDevices, IsSet}
 pub use Rattle.prem_tasks.specs.SetOf.{set_of}
 pub use Rattle.prem_text.specs.Texts.{reads}
 pub use Rattle.std.specs.List.{list_any}
-pub use Rattle.std.specs.Prelude.{All, Bool, Err, IfSome, List, None, Ok, Option, Result, Some, [], drop, false, if◌then◌else◌, is_some, length, map, max, nat_le, nat_lt, not, option_map}
-pub use Rattle.std.specs.Prelude.{pos, replicate, slice_get, slice_index, slice_index_or, suc, take, true, unwrap_or, zero, ℕ, ⊤, ◌%◌, ◌&&◌, ◌*◌, ◌++◌, ◌+◌, ◌-◌, ◌/◌, ◌<◌, ◌==◌, ◌^◌, ◌||◌}
-pub use Rattle.std.specs.Prelude.{◌↔◌, ◌∷◌, ◌≡◌, ◌≢◌, ◌≤◌, ◌⊎◌}
+pub use Rattle.std.specs.Prelude.{List, [], slice_get, slice_index_or, ℕ}

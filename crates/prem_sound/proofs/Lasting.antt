@@ -1,11 +1,12 @@
 -- A cycle of a core whose tasks keep to their scripts: each predictable interval that has ended has lasted as long as it stated.
+use Rattle.std.proofs.Common.{◌≡◌, ℕ, ◌+◌, ◌-◌, ◌<◌, ◌≤◌, refl, ap, ◌∙◌, sym, subst, cond, ltb, true, false, Bool, Some, None, Option, List, length, ◌∷◌, arith, []}
+use Rattle.std.specs.Prelude.{All, is_some, ◌&&◌}
 use Rattle.prem_sound.proofs.Prelude.{issuing_did, MayMove, does, stands_still, turn_with, Moves as Scheduled, bump, Stands, Issuing, Runs, bump_move, issuing, kept_plant, phase_in, want_of}
 use Rattle.prem_sound.proofs.Prelude.{is_paid, CoreMove, Passes, Issues, is_predictable, new_interval, stated_after, core_issue, core_turn, Arrivals, with_memory, with_clash, joined}
 use Rattle.prem_sound.proofs.Prelude.{ends_before, ended_interval, at_point, close_interval, settle, with_now, next_cycle, ticked, issued_by, owed_by, Attempt, Traps, Executes, LineTouch}
 use Rattle.prem_sound.proofs.Prelude.{attempt_behind, one_if, with_touch, with_touches, with_store, Setup, Work, CoreState, Counts, MachineState, start_of, task_in, Interval, Mode, Point}
 use Rattle.prem_sound.proofs.Prelude.{Switching, Running, Idle, Turned, wants, plain_fits, cost_of, TaskRun, Did, did_of, plain_did, plain_run, Phase, Stored, ReplacementRule, lines_in}
-use Rattle.prem_sound.proofs.Prelude.{OrderRule, TaskJobs, LastsAsStated, IsPolicy, lines_of_did, call_of, Script, ◌≡◌, ℕ, ◌+◌, ◌-◌, ◌<◌, ◌≤◌, refl, ap, ◌∙◌, sym, subst, cond, ltb, true}
-use Rattle.prem_sound.proofs.Prelude.{false, Bool, Some, None, Option, List, length, ◌∷◌, arith, [], and_parts, cond_both, All-nil, All-push, All, is_some, ◌&&◌}
+use Rattle.prem_sound.proofs.Prelude.{OrderRule, TaskJobs, LastsAsStated, IsPolicy, lines_of_did, call_of, Script, and_parts, cond_both, All-nil, All-push}
 use Rattle.prem_sound.proofs.Lasts.{Clock, GoesOn, ClockMove, clock_moves, clock_issues, lasted, never_over}
 use Rattle.prem_sound.proofs.ResidentLemmas.Counted.{AttemptFits, attempt_fits}
 use Rattle.prem_sound.proofs.ResidentLemmas.Facing.{Meets, Faces, Comes}

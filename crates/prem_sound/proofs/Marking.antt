@@ -1,11 +1,12 @@
 -- A cycle of a core whose tasks keep to their scripts: its predictable intervals are those of the marked calls that are promised.
+use Rattle.std.proofs.Common.{◌≡◌, ℕ, ◌+◌, ◌-◌, ◌<◌, ◌≤◌, refl, ap, ◌∙◌, sym, subst, arith, cond, ltb, true, false, Bool, Some, None, List, length, ⊎_elim}
+use Rattle.std.specs.Prelude.{is_some, ◌&&◌}
 use Rattle.prem_sound.proofs.Prelude.{settle_keeps as settles, issuing_did, MayMove, does, stands_still, turn_with, Moves as Scheduled, bump, Stands, Issuing, Runs, bump_move, issuing}
 use Rattle.prem_sound.proofs.Prelude.{is_paid, CoreMove, Passes, Issues, is_predictable, phase_in, stated_after, core_issue, core_turn, Arrivals, with_memory, with_clash, joined}
 use Rattle.prem_sound.proofs.Prelude.{ends_before, ended_interval, at_point, close_interval, settle, with_now, next_cycle, ticked, Setup, Work, CoreState, Counts, MachineState, start_of}
 use Rattle.prem_sound.proofs.Prelude.{task_in, EndedInterval, Interval, Mode, Point, Switching, Running, Idle, Turned, TaskRun, Did, did_of, plain_did, plain_steps, plain_run, Change, End}
 use Rattle.prem_sound.proofs.Prelude.{Stay, Memory, Execute, Job, Phase, Compatible, Execution, ReplacementRule, lines_in, OrderRule, TaskJobs, predictable_of, read_in, IsOfMark}
-use Rattle.prem_sound.proofs.Prelude.{GivesPromised, IsPolicy, begun_by, call_of, Script, Promise, mark_at, AreKept, ◌≡◌, ℕ, ◌+◌, ◌-◌, ◌<◌, ◌≤◌, refl, ap, ◌∙◌, sym, subst, arith, cond, ltb}
-use Rattle.prem_sound.proofs.Prelude.{true, false, Bool, Some, None, List, length, ⊎_elim, and_parts, cases_eq, cond_both, is_some, ◌&&◌}
+use Rattle.prem_sound.proofs.Prelude.{GivesPromised, IsPolicy, begun_by, call_of, Script, Promise, mark_at, AreKept, and_parts, cases_eq, cond_both}
 use Rattle.prem_isa.specs.declared.effect.Phase.TheVariants.{Memory as MemoryPhase}
 use Rattle.prem_sound.proofs.CallRuns.{same_begun, calls_most, end_compatible, fresh_before}
 use Rattle.prem_sound.proofs.Ends.{Gives, reads_as, gives, finished_ended}

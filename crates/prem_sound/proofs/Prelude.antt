@@ -119,8 +119,7 @@ unfoldable pub use Rattle.prem_sound.specs.Serve.Requests.{queued_of}
 pub use Rattle.prem_sound.specs.Sound.{HasScripts, ImagesAreSound, IsRun, ScriptsAreGood, ScriptsFinish, ScriptsLast}
 pub use Rattle.prem_word.proofs.Bytes.{number_at-agrees, number_at-put_number}
 pub use Rattle.prem_word.specs.Bytes.{number_at, put_number}
-pub use Rattle.std.proofs.Common.{Bool, IfSome, List, None, Option, Some, [], ap, append-nil, append_assoc, arith, cond, drop, eqb, false, get_or, inl, inr, leb, length, ltb, map, max, min}
-pub use Rattle.std.proofs.Common.{refl, replicate, slice_index_or, subst, suc, sym, take, true, zero, ℕ, ⊎_elim, ◌%◌, ◌*◌, ◌++◌, ◌+◌, ◌-◌, ◌/◌, ◌<◌, ◌^◌, ◌∙◌, ◌∷◌, ◌≡◌, ◌≢◌, ◌≤◌, ◌⊎◌}
+pub use Rattle.std.proofs.Common.{List, arith, ℕ}
 pub use Rattle.std.proofs.Math.Nat.{add-mul, mod-eq_of_lt}
 pub use Rattle.std.proofs.lemmas.Bool.{and_parts, cases_Bool, cases_eq, cases_lt, cond_both, eq-eqb, eqb-true, le-leb, le-ltb, leb-false, leb-true, lt-leb, lt-ltb, ltb-false, ltb-true}
 pub use Rattle.std.proofs.lemmas.Bool.{ne_eqb}
@@ -129,4 +128,4 @@ pub use Rattle.std.proofs.lemmas.List.Elements.{All-append, All-cons, All-head, 
 pub use Rattle.std.proofs.lemmas.List.Sums.{sum_by-append, sum_by-cons}
 pub use Rattle.std.proofs.lemmas.Nat.{div-add-mod', div-mul-add, mod-mul-add, mod_below, mul-le}
 pub use Rattle.std.proofs.lemmas.Option.{slice_get-get_or, slice_get-map, slice_get_within}
-pub use Rattle.std.specs.Prelude.{All, Err, Ok, Result, filter, is_none, is_some, not, option_map, slice_get, slice_index, slice_set, sum, sum_by, ◌&&◌, ◌||◌}
+pub use Rattle.std.specs.Prelude.{All, Err, Ok, Result, filter, is_none, is_some, not, option_map, slice_get, slice_index, slice_set, sum, sum_by}

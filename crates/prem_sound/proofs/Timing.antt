@@ -1,5 +1,8 @@
 -- A cycle of a core whose tasks keep to their scripts: what has passed is at most the cycles in which it hasn't worked, and
 -- what is due for the instructions that have issued.
+use Rattle.std.proofs.Common.{◌≡◌, ℕ, zero, suc, ◌+◌, ◌-◌, ◌*◌, ◌<◌, ◌≤◌, refl, ap, ◌∙◌, sym, subst, arith, cond, leb, ltb, true, false, Bool, Some, None, List, [], ◌∷◌, length, get_or, ◌⊎◌}
+use Rattle.std.proofs.Common.{inl, inr, ⊎_elim}
+use Rattle.std.specs.Prelude.{All, is_some, ◌&&◌, ◌||◌}
 use Rattle.prem_sound.proofs.Prelude.{MoveCase, total, ArePositive, paid_is, issuing_did, MayMove, does, stands_still, turn_with, GoesOn, Schedules, Moves as Scheduled, bump, Stands}
 use Rattle.prem_sound.proofs.Prelude.{Issuing, Runs, bump_move, issuing, kept_plant, want_of, is_paid, CoreMove, Passes, Issues, is_predictable, core_issue, core_turn, Arrivals, with_memory}
 use Rattle.prem_sound.proofs.Prelude.{with_clash, joined, ends_before, ended_interval, at_point, close_interval, settle, with_now, next_cycle, ticked, is_finish, is_finished_in, is_finished}
@@ -8,8 +11,7 @@ use Rattle.prem_sound.proofs.Prelude.{MachineState, start_of, task_in, Mode, Poi
 use Rattle.prem_sound.proofs.Prelude.{did_of, plain_did, plain_steps, plain_run, Change, Stay, Memory, Execute, End, Job, Phase, Compatible, Execution, ReplacementRule, lines_in, OrderRule}
 use Rattle.prem_sound.proofs.Prelude.{HaveRoom, caches_after, cache_misses, IsPlant, Plant, choice_done, choice, no_task, task_at, IsDone, Finished, TaskJobs, IsPolicy, Scoping}
 use Rattle.prem_sound.proofs.Prelude.{within_scope, scope_by, scope_at as lines_at, IsScoped, charges_by, all_charged, lines_of_did, begun_by, Call, call_of, Script, sum_below, last_release}
-use Rattle.prem_sound.proofs.Prelude.{interval_count, ◌≡◌, ℕ, zero, suc, ◌+◌, ◌-◌, ◌*◌, ◌<◌, ◌≤◌, refl, ap, ◌∙◌, sym, subst, arith, cond, leb, ltb, true, false, Bool, Some, None, List, []}
-use Rattle.prem_sound.proofs.Prelude.{◌∷◌, length, get_or, ◌⊎◌, inl, inr, ⊎_elim, and_parts, cond_both, leb-false, lt-leb, ltb-true, length-append, All, is_some, ◌&&◌, ◌||◌}
+use Rattle.prem_sound.proofs.Prelude.{interval_count, and_parts, cond_both, leb-false, lt-leb, ltb-true, length-append}
 use Rattle.prem_cycle.specs.Cycle.{is_full}
 use Rattle.prem_isa.specs.declared.effect.Phase.TheVariants.{Memory as MemoryPhase}
 use Rattle.prem_sched.specs.declared.sched.Choice.TheVariants.{Idle as Rest}

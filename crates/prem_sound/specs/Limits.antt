@@ -1,5 +1,6 @@
 -- By when a run of tasks with scripts has finished, where their instructions are parted into scopes.
-use Rattle.prem_sound.specs.Prelude.{is_finished, run_of, Setup, record_of, Request, TaskRun, ReplacementRule, OrderRule, ◌≡◌, ℕ, ◌+◌, ◌*◌, ◌<◌, ◌≤◌, Bool, true, List, length}
+use Rattle.std.specs.Prelude.{◌≡◌, ℕ, ◌+◌, ◌*◌, ◌<◌, ◌≤◌, Bool, true, List, length}
+use Rattle.prem_sound.specs.Prelude.{is_finished, run_of, Setup, record_of, Request, TaskRun, ReplacementRule, OrderRule}
 use Rattle.prem_sound.specs.Resident.Faultless.{IsPolicy}
 use Rattle.prem_sound.specs.Scopes.Charged.{Scoping, IsScoped, charges_by, all_charged, IsCharged}
 use Rattle.prem_sound.specs.Script.Script.{Script}

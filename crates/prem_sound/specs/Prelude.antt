@@ -23,5 +23,3 @@ pub use Rattle.prem_plant.specs.Order.Order.{AllIn, ArePasses, CacheMissesOnce, 
 pub use Rattle.prem_plant.specs.Order.Rules.{order_rule_of, passes_of}
 pub use Rattle.prem_plant.specs.Places.{AreApart}
 pub use Rattle.prem_plant.specs.declared.plant.Plant.{Plant}
-pub use Rattle.std.specs.Prelude.{All, Bool, IfSome, List, None, Option, Some, [], false, filter, if◌then◌else◌, length, map, max, nat_le, nat_lt, not, slice_get, slice_index}
-pub use Rattle.std.specs.Prelude.{slice_index_or, suc, sum, sum_by, true, zero, ℕ, ◌%◌, ◌&&◌, ◌*◌, ◌++◌, ◌+◌, ◌-◌, ◌/◌, ◌<◌, ◌==◌, ◌^◌, ◌∷◌, ◌≡◌, ◌≤◌}

@@ -1,6 +1,7 @@
 -- Small texts that are programs, and some that are none.
+use Rattle.std.proofs.Common.{[], ◌∷◌, ◌++◌, None, codes, refl, replicate}
 use Rattle.prem_text.proofs.Prelude.{ProgramText, absent, global_item, function_item, no_statements, literal_word, used_word, is_unused, reserved_word, longest_mark, first_token, start, lex}
-use Rattle.prem_text.proofs.Prelude.{tokens_of, IsProgramText, IsNoProgram, Token, Syntax, TooDeep, [], ◌∷◌, ◌++◌, None, codes, refl, replicate}
+use Rattle.prem_text.proofs.Prelude.{tokens_of, IsProgramText, IsNoProgram, Token, Syntax, TooDeep}
 use Rattle.prem_text.proofs.Whole.{text_sound, text_refused}
 use Rattle.prem_text.specs.Lexing.Tokens.{step}
 use Rattle.prem_syntax.specs.declared.tree.Ty.TheVariants as ty

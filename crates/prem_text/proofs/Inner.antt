@@ -1,4 +1,5 @@
 -- No item of the grammar has the end of the text among its tokens.
+use Rattle.std.proofs.Common.{◌≡◌, Bool, true, false, List, [], ◌∷◌, ◌++◌, Option, None, Some, refl, not}
 use Rattle.prem_text.proofs.Prelude.{Phrase, of_literal, of_name, of_element, of_bracket, of_prefix, of_infix, spelled, IsRow, TypeForm, void_type, type_slots, Declaration, IsDeclaration}
 use Rattle.prem_text.proofs.Prelude.{declaration_tokens, ConstantPhrase, constant_slots, IsConstant, PartedConstant, InitialPhrase, no_initial, one_initial, many_initial, ArePartedConstants}
 use Rattle.prem_text.proofs.Prelude.{IsInitial, constants_tokens, initial_tokens, IsLength, length_tokens, GlobalPhrase, IsGlobal, global_tokens, MarkPhrase, AreRegions, region_tokens}
@@ -10,8 +11,7 @@ use Rattle.prem_text.proofs.Prelude.{the_else, the_range, the_predictable, the_r
 use Rattle.prem_text.proofs.Prelude.{to_element, Direction, up, Parted, Arguments, no_arguments, arguments, StatementPhrase, StatementPhrases, of_block, of_if, of_else, of_for, of_while}
 use Rattle.prem_text.proofs.Prelude.{of_output, of_call, of_input, of_call_to, of_assign, of_change, of_count, no_phrases, next_phrase, AreParted, AreArguments, IsStatement, AreStatements}
 use Rattle.prem_text.proofs.Prelude.{parted_tokens, argument_tokens, target_tokens, written, all_written, change_sign, count_sign, if_head, for_head, for_bound, while_head, out_head}
-use Rattle.prem_text.proofs.Prelude.{statement_tail, call_head, call_to_head, input_row, Lexeme, name, number, word, mark, end_of_text, Seen, every, ◌≡◌, Bool, true, false, List, [], ◌∷◌}
-use Rattle.prem_text.proofs.Prelude.{◌++◌, Option, None, Some, refl, not, and_parts, and_from}
+use Rattle.prem_text.proofs.Prelude.{statement_tail, call_head, call_to_head, input_row, Lexeme, name, number, word, mark, end_of_text, Seen, every, and_parts, and_from}
 use Rattle.prem_text.proofs.SpellingLemmas.Bytes.{every_append}
 
 abbrev pub is_inner : Seen → Bool

@@ -85,13 +85,8 @@ pub use Rattle.prem_word.specs.declared.kind.BinOp.{BinOp}
 pub use Rattle.prem_word.specs.declared.kind.BinOp.TheVariants.{Add, And, AndAlso, Div, Eq, Ge, Gt, Le, Lt, Mul, Ne, Or, OrElse, Rem, Shl, Shr, Sub, Xor}
 pub use Rattle.prem_word.specs.declared.kind.Kind.{Kind}
 pub use Rattle.prem_word.specs.declared.kind.Kind.TheVariants.{Int, Unsigned}
-pub use Rattle.std.proofs.Common.{Bool, Err, List, None, Ok, Option, Result, Some, [], add-mul, add-one, add-zero, add_assoc, ap, append_assoc, arith, bytes_eq, codes, cond, count_by, drop}
-pub use Rattle.std.proofs.Common.{drop-cons, eq-eqb, eqb-true, false, get_or, if◌then◌else◌, inl, inr, int_lt, is_none, le-leb, le-ltb, leb-true, length, length-append, lt-ltb, map, mul-one}
-pub use Rattle.std.proofs.Common.{mul_assoc, nat_le, nat_lt, neg_ℤ, negsuc, not, option_and_then, pos, refl, replicate, reverse, rules, slice_index, subst, suc, sym, take_while, true}
-pub use Rattle.std.proofs.Common.{unsigned_abs, vec_len, zero, zero-le, ℕ, ℤ, ◌&&◌, ◌*◌, ◌++◌, ◌+◌, ◌-◌, ◌<◌, ◌==◌, ◌^◌, ◌||◌, ◌∙◌, ◌∷◌, ◌≡◌, ◌≤◌}
 pub use Rattle.std.proofs.lemmas.Bool.{and_from, and_left, and_parts, and_right, cases_lt, not-true, or_from, or_left, or_parts, or_right}
 pub use Rattle.std.proofs.lemmas.Bool.Decides.{nat_tests}
 pub use Rattle.std.proofs.lemmas.List.{append-nil, drop_all, map_push, reverse-append, take_rest}
 pub use Rattle.std.proofs.lemmas.List.Sums.{sum_by-append, sum_by-cons, take_while-cons}
 pub use Rattle.std.specs.Option.{option_map}
-pub use Rattle.std.specs.Prelude.{◌⊎◌}

@@ -1,9 +1,9 @@
 -- Reading a text gives what the text is, or why it is none.
+use Rattle.std.proofs.Common.{◌≡◌, ℕ, zero, suc, ◌+◌, Bool, true, false, List, [], ◌∷◌, ◌++◌, Some, Result, Ok, Err, refl, sym, ap, ◌∙◌, arith, nat_lt, append_assoc, lt-ltb}
 use Rattle.prem_text.proofs.Prelude.{ItemText, ProgramText, Stage, outside, finished, ItemStep, ahead, made, refused, step, is_too_deep, stages, Begins, IsRow, items_tokens, program_tokens}
 use Rattle.prem_text.proofs.Prelude.{program_tree, unless_deep, at_end, read_on, read, the_end, end_of_text, Seen, ◌>>=◌, too_deep, tokens_of, place_behind, Divides, up_to, gap, token}
-use Rattle.prem_text.proofs.Prelude.{AreTokens, every, IsProgramText, IsNoProgram, not_divided, unexpected, FrontFail, NotText, Token, Syntax, TooLong, TooDeep, OutOfMemory, ◌≡◌, ℕ, zero}
-use Rattle.prem_text.proofs.Prelude.{suc, ◌+◌, Bool, true, false, List, [], ◌∷◌, ◌++◌, Some, Result, Ok, Err, refl, sym, ap, ◌∙◌, arith, nat_lt, append_assoc, lt-ltb, and_parts, and_from}
-use Rattle.prem_text.proofs.Prelude.{nat_tests}
+use Rattle.prem_text.proofs.Prelude.{AreTokens, every, IsProgramText, IsNoProgram, not_divided, unexpected, FrontFail, NotText, Token, Syntax, TooLong, TooDeep, OutOfMemory, and_parts}
+use Rattle.prem_text.proofs.Prelude.{and_from, nat_tests}
 use Rattle.prem_text.proofs.GrammarLemmas.Program.{Reached, reached, read_by, stages_step, read_step, shallow, deep, program_stages, programs_read}
 use Rattle.prem_text.proofs.GrammarLemmas.ProgramBegun.{begins_after}
 use Rattle.prem_text.proofs.GrammarLemmas.ProgramRefused.{refused_for, unexpected_refused, past_refused}

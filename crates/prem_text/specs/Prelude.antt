@@ -12,5 +12,4 @@ pub use Rattle.prem_word.specs.declared.kind.BinOp.TheVariants.{Add, And, AndAls
 pub use Rattle.prem_word.specs.declared.kind.Kind.{Kind}
 pub use Rattle.prem_word.specs.declared.kind.Kind.TheVariants.{Int, Unsigned}
 pub use Rattle.std.specs.Option.{option_and_then, option_map}
-pub use Rattle.std.specs.Prelude.{Bool, Err, List, None, Ok, Option, Result, Some, [], codes, count_by, decimal, drop, false, if◌then◌else◌, int_lt, length, map, nat_le, nat_lt, neg_ℤ, not}
-pub use Rattle.std.specs.Prelude.{pos, reverse, slice_index, suc, take_while, true, unsigned_abs, zero, ℕ, ℤ, ◌&&◌, ◌*◌, ◌++◌, ◌+◌, ◌-◌, ◌<◌, ◌==◌, ◌^◌, ◌||◌, ◌∷◌, ◌≡◌, ◌≤◌}
+pub use Rattle.std.specs.Prelude.{map, ℕ}

@@ -1,5 +1,6 @@
 -- Which texts are programs, and why another is none.
-use Rattle.prem_text.specs.Prelude.{ProgramText, ◌≡◌, ℕ, true, List, Result}
+use Rattle.std.specs.Prelude.{◌≡◌, ℕ, true, List, Result}
+use Rattle.prem_text.specs.Prelude.{ProgramText}
 use Rattle.prem_text.specs.Grammar.Law.{are_within, IsUnexpected, IsPast}
 use Rattle.prem_text.specs.Grammar.ProgramPhrases.{ProgramPhrase, IsProgram, program_tokens, program_tree, program_past}
 use Rattle.prem_text.specs.Grammar.Reader.{read}

@@ -57,9 +57,7 @@ pub use Rattle.prem_word.specs.Words.{value_in, word_of}
 pub use Rattle.prem_word.specs.declared.kind.BinOp.TheVariants.{Add, AndAlso, OrElse, Sub}
 pub use Rattle.prem_word.specs.declared.kind.Kind.{Kind}
 pub use Rattle.prem_word.specs.declared.kind.Kind.TheVariants.{Int}
-pub use Rattle.std.proofs.Common.{Bool, Err, IfOk, IfSome, IsTrue, List, None, Ok, OnOk, Option, Result, Some, [], ap, append_assoc, arith, cond, drop, eqb, false, get_or, inl, inr, is_none}
-pub use Rattle.std.proofs.Common.{is_some, leb, length, ltb, map, min, not, option_map, refl, replicate, rules, set, slice_index_or, subst, suc, sym, take, true, true≢false, unwrap_or, zero}
-pub use Rattle.std.proofs.Common.{ℕ, ⊎_elim, ◌%◌, ◌&&◌, ◌*◌, ◌++◌, ◌+◌, ◌-◌, ◌/◌, ◌<◌, ◌^◌, ◌||◌, ◌∙◌, ◌∷◌, ◌≡◌, ◌≤◌, ◌⊎◌}
+pub use Rattle.std.proofs.Common.{[], ap, arith, map, refl, sym, ◌∙◌}
 pub use Rattle.std.proofs.Math.Nat.{div-add-mod, div-eq_of_lt, div-lt_iff_lt-mul, div-mul-le_self, le-div_iff_mul-le, le-mul_of_pos_right, mod-lt, mul-div_cancel_left, mul-le-mul_left}
 pub use Rattle.std.proofs.Math.Nat.{mul-le-mul_right, mul-lt-mul_of_pos_left, mul-lt-mul_of_pos_right, mul-suc, mul-zero, mul_comm, zero-mul}
 pub use Rattle.std.proofs.lemmas.Bool.{and_from, and_parts, cases_eq, cases_lt, eq-eqb, eqb-true, le-leb, le-ltb, leb-false, leb-true, lt-ltb, ltb-false, ltb-true, ne_eqb, not-true}
@@ -72,5 +70,5 @@ pub use Rattle.std.proofs.lemmas.Slice.Eq.{bytes_eq-Decides}
 unfoldable pub use Rattle.std.specs.Fmt.{digits}
 pub use Rattle.std.specs.Int.{div_ceil, int_max, int_min}
 pub use Rattle.std.specs.List.{flat_map, list_any}
-pub use Rattle.std.specs.Prelude.{codes, decimal, int_le, int_lt, nat_le, nat_lt, negsuc, pos, slice_get, slice_index, slice_set, unsigned_abs, ℤ, ◌+ℤ◌, ◌≤ℤ◌}
+pub use Rattle.std.specs.Prelude.{codes, decimal, nat_le, nat_lt, negsuc, pos, slice_get, slice_index, slice_set}
 pub use Rattle.std.specs.Str.{bytes_eq}

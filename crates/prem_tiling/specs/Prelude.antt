@@ -9,6 +9,4 @@ pub use Rattle.prem_syntax.specs.SyntaxOf.{function_of}
 pub use Rattle.prem_syntax.specs.declared.tree.Place.{Place}
 pub use Rattle.std.specs.Int.{div_ceil, int_max, int_min}
 pub use Rattle.std.specs.List.{flat_map, list_all, list_any}
-pub use Rattle.std.specs.Prelude.{Bool, Err, List, None, Ok, Option, Result, Some, [], codes, decimal, drop, false, if◌then◌else◌, int_le, is_some, length, map, nat_le, nat_lt, neg_ℤ, not}
-pub use Rattle.std.specs.Prelude.{pos, slice_index_or, slice_set, suc, take, true, unsigned_abs, zero, ℕ, ℤ, ◌&&◌, ◌*◌, ◌++◌, ◌+ℤ◌, ◌+◌, ◌-ℤ◌, ◌-◌, ◌/◌, ◌<◌, ◌==◌, ◌||◌, ◌∷◌, ◌≡◌, ◌≤◌}
 pub use Rattle.std.specs.Str.{bytes_eq}

@@ -1,12 +1,12 @@
 -- Loads and stores alone access bytes, and what own code is charged where it stands alone.
+use Rattle.std.proofs.Common.{◌≡◌, ℕ, ◌+◌, ◌*◌, ◌/◌, ◌%◌, ◌≤◌, refl, ap, ◌∙◌, sym, subst, arith, cond, eqb, leb, List, [], ◌∷◌, length, max, Some, None, Option, false}
 use Rattle.prem_wcet_laws.proofs.Prelude.{pieces_good, stepped_by, Pieces, no_pieces, straight, address_of, either, repeat, call_to, weight, jump_weight, address_weight, branch_of}
 use Rattle.prem_wcet_laws.proofs.Prelude.{skip_words, other_at, either_end, test_at, repeat_end, weighted, EachPiece, Guard, Setting, Calls, Ending, Falls, Returns, Stuck, stepped}
 use Rattle.prem_wcet_laws.proofs.Prelude.{outcome_at, control, run, AllSteps, Holds, Within, total, Rules, extended_done, sets, jumps, accesses, loads, stores, changes, takes, puts}
 use Rattle.prem_wcet_laws.proofs.Prelude.{in_phase, plus, load_size, store_size, multiply_divide, OnDone, cost_of, TaskState, Did, next_input, Align, Outside, Stay, Memory, Execute, End}
 use Rattle.prem_wcet_laws.proofs.Prelude.{Job, Effect, Outcome, Trap, Phase, Compatible, Execution, Instr, Lui, Auipc, Jal, Jalr, Branch, Load, Store, OpImm, Op, MulDiv, Fence, Ecall}
 use Rattle.prem_wcet_laws.proofs.Prelude.{Ebreak, PmMem, PmExec, PmEnd, PmDone, PmIn, PmOut, line_cost, job_weight, Plant, Target, StaysOn, Weighs, weight_of, access_lines, lone_charge}
-use Rattle.prem_wcet_laws.proofs.Prelude.{Divides, RunDivides, Accesses, is_foreign, IsNative, weight_from, weighted_from, number_at, ◌≡◌, ℕ, ◌+◌, ◌*◌, ◌/◌, ◌%◌, ◌≤◌, refl, ap, ◌∙◌, sym}
-use Rattle.prem_wcet_laws.proofs.Prelude.{subst, arith, cond, eqb, leb, List, [], ◌∷◌, length, max, Some, None, Option, false, cond_both}
+use Rattle.prem_wcet_laws.proofs.Prelude.{Divides, RunDivides, Accesses, is_foreign, IsNative, weight_from, weighted_from, number_at, cond_both}
 use Rattle.prem_isa.specs.Alu.{holds}
 use Rattle.prem_isa.specs.declared.effect.Access.{Access}
 use Rattle.prem_isa.specs.declared.effect.Outcome.TheVariants.{Done}

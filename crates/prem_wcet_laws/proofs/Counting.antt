@@ -1,7 +1,7 @@
 -- Counts in their order, and one behind another.
+use Rattle.std.proofs.Common.{◌≡◌, ℕ, zero, suc, ◌+◌, ◌*◌, ◌≤◌, refl, ap, ◌∙◌, sym, subst, arith, Option, Some, None}
 use Rattle.prem_wcet_laws.proofs.Prelude.{same_sums, most_none, chained_assoc, none_taken, taken, within_same, within_then, chained_within, taking_within, within_first, within_second, most}
-use Rattle.prem_wcet_laws.proofs.Prelude.{both, Sums, taking, chained, turned, PathCount, quiet, then_count, either_count, turned_count, IsNoMore, ◌≡◌, ℕ, zero, suc, ◌+◌, ◌*◌, ◌≤◌, refl, ap}
-use Rattle.prem_wcet_laws.proofs.Prelude.{◌∙◌, sym, subst, arith, Option, Some, None}
+use Rattle.prem_wcet_laws.proofs.Prelude.{both, Sums, taking, chained, turned, PathCount, quiet, then_count, either_count, turned_count, IsNoMore}
 
 pub none_behind : (x : Sums) → chained x (taking 0) ≡ x
 none_behind x = same_sums _ _ (zero_behind x.whole) (ap (most x.before) (no_both x.whole) ∙ most_none x.before)

@@ -1,13 +1,12 @@
 -- Courses of runs, with marked calls, go together as divisions do.
+use Rattle.std.proofs.Common.{pos, ◌≡◌, ℕ, zero, suc, ◌+◌, refl, ap, ◌∙◌, sym, subst, arith, true, List, [], ◌∷◌, ◌++◌, append-nil}
 use Rattle.prem_wcet_laws.proofs.Prelude.{run-followed, choose_both, Pieces, followed, size_of, Setting, Calls, Ending, Falls, Returns, Stuck, with_trace, then_run, Loop, left_loop}
 use Rattle.prem_wcet_laws.proofs.Prelude.{run_turns, run, TaskState, Did, Jalr, PmMem, taken, path_joined, job_weight, Takes, Cuts, chained, taking, sums_of_path, Plant, PathCount, quiet}
 use Rattle.prem_wcet_laws.proofs.Prelude.{then_count, turned_count, IsNoMore, Division, ends, alone, together, section, joined, steps_of, charge_of, path_of, count_of, lone_charge}
-use Rattle.prem_wcet_laws.proofs.Prelude.{scope_charge, IsDivision, IsCourse, Divides, RunDivides, Courses, RunCourses, ◌≡◌, ℕ, zero, suc, ◌+◌, refl, ap, ◌∙◌, sym, subst, arith, true, List}
-use Rattle.prem_wcet_laws.proofs.Prelude.{[], ◌∷◌, ◌++◌, append-nil}
+use Rattle.prem_wcet_laws.proofs.Prelude.{scope_charge, IsDivision, IsCourse, Divides, RunDivides, Courses, RunCourses}
 use Rattle.prem_asm.specs.Runs.{choose}
 use Rattle.prem_wcet_laws.proofs.Counting.{same_count, no_more_then, quiet_more, then_no_more, count_is, then_assoc, quiet_then, by_same, grows, turned_out, turned_next}
 use Rattle.prem_wcet_laws.proofs.Divide.{joined_steps, joined_charge, joined_loose}
-use Rattle.std.proofs.Common.{pos}
 
 module _ (p : Plant) (Marked : List Did → ℕ → Type 0) where
   course_keeps : (x y : Division) → IsCourse Marked p.line x → IsCourse Marked p.line y → IsCourse Marked p.line (joined x y)

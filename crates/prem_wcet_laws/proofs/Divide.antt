@@ -1,7 +1,7 @@
 -- Divisions of steps go together.
+use Rattle.std.proofs.Common.{◌≡◌, ℕ, ◌+◌, ◌≤◌, refl, ap, ◌∙◌, sym, arith, List, [], ◌∷◌, ◌++◌, append_assoc, append-nil}
 use Rattle.prem_wcet_laws.proofs.Prelude.{Ending, Falls, Returns, Stuck, with_trace, total, AllSteps, Did, Plant, lone_charge, Division, ends, alone, together, section, joined, steps_of}
-use Rattle.prem_wcet_laws.proofs.Prelude.{charge_of, StaysOn, AreLoose, IsDivision, KeepsTo, scope_charge, Divides, RunDivides, ◌≡◌, ℕ, ◌+◌, ◌≤◌, refl, ap, ◌∙◌, sym, arith, List, [], ◌∷◌}
-use Rattle.prem_wcet_laws.proofs.Prelude.{◌++◌, append_assoc, append-nil}
+use Rattle.prem_wcet_laws.proofs.Prelude.{charge_of, StaysOn, AreLoose, IsDivision, KeepsTo, scope_charge, Divides, RunDivides}
 
 module _ (p : Plant) where
   pub joined_steps : (x y : Division) → steps_of (joined x y) ≡ steps_of x ++ steps_of y

@@ -1,11 +1,11 @@
 -- What the code at the edges of passages does: the frame and the locals, the arguments, the target, the result and the return.
+use Rattle.std.proofs.Common.{◌≡◌, ℕ, zero, suc, ◌+◌, ◌-◌, ◌*◌, ◌%◌, ◌^◌, ◌<◌, ◌≤◌, refl, ap, ◌∙◌, subst, arith, true, Bool, ◌&&◌, List, [], ◌∷◌, ◌++◌, length, Option, Some, None, Ok, inl}
 use Rattle.prem_wcet_laws.proofs.Prelude.{run-followed, Pieces, no_pieces, straight, followed, size_of, Setting, Calls, Falls, Returns, with_trace, then_run, all_of, run, all_between}
 use Rattle.prem_wcet_laws.proofs.Prelude.{Readable, goes_then, before, after, then_ok, Opened, closed, rounded, resulted, number_same, number_apart, word_back, store_falls, globals_stack}
 use Rattle.prem_wcet_laws.proofs.Prelude.{locals_apart, evaluated, still, slot_falls, Globals, GlobalsStand, Stack, Ground, AreApart, AllFit, DeclaredFit, ResultFits, Between, Matches}
 use Rattle.prem_wcet_laws.proofs.Prelude.{slot_at, ArgumentsStand, TaskState, Did, Phase, Lw, Sw, locals_of, slots_of, frame_of, argument_slot, store_argument, argument_code, target_code}
 use Rattle.prem_wcet_laws.proofs.Prelude.{declare_code, result_code, store_slot, opening, closing, only, term_code, Access, Term, Routine, ProgramState, value, values, declare, result_of}
-use Rattle.prem_wcet_laws.proofs.Prelude.{number_at, put_number, ◌≡◌, ℕ, zero, suc, ◌+◌, ◌-◌, ◌*◌, ◌%◌, ◌^◌, ◌<◌, ◌≤◌, refl, ap, ◌∙◌, subst, arith, true, Bool, ◌&&◌, List, [], ◌∷◌, ◌++◌}
-use Rattle.prem_wcet_laws.proofs.Prelude.{length, Option, Some, None, Ok, inl}
+use Rattle.prem_wcet_laws.proofs.Prelude.{number_at, put_number}
 use Rattle.prem_code_laws.proofs.GenLawsLemmas.Frames.{declared, opened}
 
 module _ (s : Setting) (calls : Calls) (gs : Globals) (may : Access) (k : Stack) (ground : Ground s gs may k) (phase : Phase) where

@@ -1,8 +1,8 @@
 -- The facts of functions count no more than the rule's weights, and so does a job.
+use Rattle.std.proofs.Common.{◌≡◌, ℕ, zero, suc, ◌+◌, ◌-◌, ◌≤◌, min, arith, subst, sym, refl, ap, ◌∙◌, cond, ltb, true, false, Bool, List, [], ◌∷◌, ◌++◌, length, length-append}
 use Rattle.prem_wcet_laws.proofs.Prelude.{jump_weight, PmDone, job_weight, part_weight, weight_at, weights_behind, marked_weights, job_weights, TaskPlaces, code_part, start_part, Plan}
 use Rattle.prem_wcet_laws.proofs.Prelude.{parts_of, codes_of, is_marked_at, marked_before, stub_part, Parts, Plant, Routine, Resolved, marked_count, table_of, WcetIsWithin, called_least}
 use Rattle.prem_wcet_laws.proofs.Prelude.{called_parted, Fact, no_fact, Scene, fact_of, charge, scene_of, stack_of, fact_at, at_function, facts_behind, known_scene, own_start, start_span}
-use Rattle.prem_wcet_laws.proofs.Prelude.{◌≡◌, ℕ, zero, suc, ◌+◌, ◌-◌, ◌≤◌, min, arith, subst, sym, refl, ap, ◌∙◌, cond, ltb, true, false, Bool, List, [], ◌∷◌, ◌++◌, length, length-append}
 use Rattle.prem_wcet_laws.proofs.Prelude.{ltb-false, le-ltb, slice_index_or}
 use Rattle.prem_wcet_laws.proofs.Ordered.{right_of}
 use Rattle.prem_wcet_laws.proofs.Rule.{least_function_within, parted_function_within}

@@ -1,7 +1,8 @@
 -- Functions with marked calls run in scopes and marked calls, charged no more than their parted charge.
+use Rattle.std.proofs.Common.{◌≡◌, ℕ, ◌+◌, ◌*◌, ◌%◌, ◌^◌, ◌<◌, refl, ◌∙◌, sym, subst, arith, length}
 use Rattle.prem_wcet_laws.proofs.Prelude.{words-followed, straight, followed, words, size_of, Falls, run, then_ok, number_same, locals_of, slots_of, frame_of, Parts, opening, closing}
 use Rattle.prem_wcet_laws.proofs.Prelude.{declare_code, result_code, steps_code, function_code, only, calls_below, ProgramState, declare, result_of, declared as declared_code, entry}
-use Rattle.prem_wcet_laws.proofs.Prelude.{leaving, FunctionsCourse, ◌≡◌, ℕ, ◌+◌, ◌*◌, ◌%◌, ◌^◌, ◌<◌, refl, ◌∙◌, sym, subst, arith, length}
+use Rattle.prem_wcet_laws.proofs.Prelude.{leaving, FunctionsCourse}
 use Rattle.prem_syntax.specs.Statements.{run as run_source}
 use Rattle.prem_wcet_laws.proofs.Edges.{entered}
 use Rattle.prem_wcet_laws.proofs.PartedRuns.{Here, tail, fresh}

@@ -1,4 +1,5 @@
 -- Functions run in scopes that are charged no more than their least charge.
+use Rattle.std.proofs.Common.{◌≡◌, ℕ, ◌+◌, ◌-◌, ◌*◌, ◌%◌, ◌^◌, ◌<◌, ◌≤◌, refl, ap, ◌∙◌, sym, subst, arith, true, List, [], ◌∷◌, ◌++◌, inl, inr, ◌⊎◌, length, Ok}
 use Rattle.prem_wcet_laws.proofs.Prelude.{guard_grows, words-followed, Pieces, followed, size_of, Guard, Setting, Calls, Falls, Returns, then_run, run, AllSteps, Holds, Same, Within, total}
 use Rattle.prem_wcet_laws.proofs.Prelude.{each_closing, each_declared, each_function, each_opening, each_result, all_between, then_ok, Opened, rounded, resulted, number_apart, globals_stack}
 use Rattle.prem_wcet_laws.proofs.Prelude.{functions_run, Globals, Stack, Ground, AreApart, Callees, FunctionFits, performed, Between, with_globals, CalleesAt, Matches, ArgumentsStand}
@@ -6,8 +7,7 @@ use Rattle.prem_wcet_laws.proofs.Prelude.{at_frame, Codes, code_calls, TaskState
 use Rattle.prem_wcet_laws.proofs.Prelude.{function_code, only, Access, IsAmong, callees_in, Routine, Limits, calls_below, ProgramState, declare, result_of, KeepsTo, weight_of, RunDivides}
 use Rattle.prem_wcet_laws.proofs.Prelude.{StaysOn, Weighs, is_held, confined_to, IsIn, IsNative, own, own_around, declared as declared_code, body_at, least, least_function, Works, narrowed}
 use Rattle.prem_wcet_laws.proofs.Prelude.{globals_of, Stands, Scene, fact_of, extent_of, is_roomy, scope_weight, code_ranges, data_ranges, data_lines, lines_in, path_weight, charge}
-use Rattle.prem_wcet_laws.proofs.Prelude.{function_span, PlaceWeight, put_number, ◌≡◌, ℕ, ◌+◌, ◌-◌, ◌*◌, ◌%◌, ◌^◌, ◌<◌, ◌≤◌, refl, ap, ◌∙◌, sym, subst, arith, true, List, [], ◌∷◌, ◌++◌, inl}
-use Rattle.prem_wcet_laws.proofs.Prelude.{inr, ◌⊎◌, length, Ok, list_all, flat_map, map}
+use Rattle.prem_wcet_laws.proofs.Prelude.{function_span, PlaceWeight, put_number, list_all, flat_map, map}
 use Rattle.prem_code_laws.proofs.GenLawsLemmas.Frames.{declared, opened}
 use Rattle.prem_code_laws.proofs.GenLawsLemmas.Jobs.{frame_runs}
 use Rattle.prem_syntax.specs.Statements.{run as run_source}

@@ -1,10 +1,10 @@
 -- Runs under a guard that allows such ranges alone.
+use Rattle.std.proofs.Common.{◌≡◌, ℕ, zero, suc, ◌+◌, ◌*◌, ◌/◌, ◌%◌, ◌<◌, ◌≤◌, refl, arith, cond, eqb, leb, true, false, Bool, List, [], ◌∷◌, length}
 use Rattle.prem_wcet_laws.proofs.Prelude.{pieces_good, code-length, stepped_by, Pieces, code_of, EachPiece, Guard, Setting, Calls, all_of, allowed, stepped, outcome_at, run, Holds, AllCode}
 use Rattle.prem_wcet_laws.proofs.Prelude.{Rules, extended_done, sets, jumps, accesses, loads, stores, changes, takes, puts, in_phase, plus, load_size, store_size, OnDone, TaskState}
 use Rattle.prem_wcet_laws.proofs.Prelude.{next_input, Align, Outside, Stay, Memory, Execute, End, Job, Effect, Outcome, Trap, Phase, Compatible, Execution, Instr, Lui, Auipc, Jal, Jalr}
 use Rattle.prem_wcet_laws.proofs.Prelude.{Branch, Load, Store, OpImm, Op, MulDiv, Fence, Ecall, Ebreak, PmMem, PmExec, PmEnd, PmDone, PmIn, PmOut, Lb, Lh, Lw, Lbu, Lhu, Sb, Sh, Sw, Extent}
-use Rattle.prem_wcet_laws.proofs.Prelude.{Target, is_held, confined_to, is_foreign, IsNative, AccessIn, Accesses, IsIn, StandIn, number_at, ◌≡◌, ℕ, zero, suc, ◌+◌, ◌*◌, ◌/◌, ◌%◌, ◌<◌, ◌≤◌}
-use Rattle.prem_wcet_laws.proofs.Prelude.{refl, arith, cond, eqb, leb, true, false, Bool, List, [], ◌∷◌, length, cond_both, and_parts}
+use Rattle.prem_wcet_laws.proofs.Prelude.{Target, is_held, confined_to, is_foreign, IsNative, AccessIn, Accesses, IsIn, StandIn, number_at, cond_both, and_parts}
 use Rattle.prem_isa.specs.Alu.{holds}
 use Rattle.prem_isa.specs.declared.effect.Outcome.TheVariants.{Done}
 use Rattle.prem_isa.specs.declared.effect.Phase.TheVariants.{Memory as MemoryPhase}

@@ -1,4 +1,6 @@
 -- Lists of statements run in scopes that are charged no more than their least charge.
+use Rattle.std.proofs.Common.{◌≡◌, ◌≢◌, ℕ, zero, suc, ◌+◌, ◌-◌, ◌*◌, ◌%◌, ◌^◌, ◌<◌, ◌≤◌, refl, ap, ◌∙◌, sym, subst, arith, cond, eqb, eq-eqb, not, true, false, Bool, List, [], ◌∷◌, ◌++◌}
+use Rattle.std.proofs.Common.{inl, inr, ◌⊎◌, length, max, Option, Ok}
 use Rattle.prem_wcet_laws.proofs.Prelude.{words-followed, choose_both, Pieces, no_pieces, straight, either, repeat, call_to, followed, words, size_of, branch_of, skip_words, skip_at}
 use Rattle.prem_wcet_laws.proofs.Prelude.{other_at, either_end, test_at, back_at, repeat_end, jump_to, EachPiece, Setting, Calls, Ending, Falls, Returns, Stuck, with_trace, then_run, called}
 use Rattle.prem_wcet_laws.proofs.Prelude.{control, test_holds, taken_steps, other_steps, skip_steps, linked, run, Same, Test, each_arguments, each_bound, each_count, each_counter}
@@ -12,9 +14,7 @@ use Rattle.prem_wcet_laws.proofs.Prelude.{SetLocal, SetScalar, SetElement, Outpu
 use Rattle.prem_wcet_laws.proofs.Prelude.{with_output, take_input, store, choose, holds, in_bound, int_local, loop_test, loop_step, counting, bounded, with_target, Place, Divides}
 use Rattle.prem_wcet_laws.proofs.Prelude.{RunDivides, is_held, IsNative, own, own_jump, own_turns, own_choice, term_of, bound_code, first_code, counter_code, turn_of, taken_place}
 use Rattle.prem_wcet_laws.proofs.Prelude.{other_place, body_place, called_least, single, apart, least, Works, StepsDivide, Stands, ScopeRun, Scene, fact_of, charge, data_ranges, span_of}
-use Rattle.prem_wcet_laws.proofs.Prelude.{globals_in, number_at, put_number, value_in, truth, Int, ◌≡◌, ◌≢◌, ℕ, zero, suc, ◌+◌, ◌-◌, ◌*◌, ◌%◌, ◌^◌, ◌<◌, ◌≤◌, refl, ap, ◌∙◌, sym, subst}
-use Rattle.prem_wcet_laws.proofs.Prelude.{arith, cond, eqb, eq-eqb, not, true, false, Bool, List, [], ◌∷◌, ◌++◌, inl, inr, ◌⊎◌, length, max, Option, Ok, eqb-suc-zero, flat_map, map}
-use Rattle.prem_wcet_laws.proofs.Prelude.{slice_index}
+use Rattle.prem_wcet_laws.proofs.Prelude.{globals_in, number_at, put_number, value_in, truth, Int, eqb-suc-zero, flat_map, map, slice_index}
 use Rattle.prem_code_laws.proofs.GenLawsLemmas.Counting.{headed, stepped, tested as counted}
 use Rattle.prem_syntax.specs.Expressions.{Outcome}
 use Rattle.prem_syntax.specs.Statements.{run as run_source}

@@ -1,10 +1,10 @@
 -- The longest stretch counts no more than by the rule.
+use Rattle.std.proofs.Common.{◌≡◌, ℕ, zero, suc, ◌+◌, ◌-◌, ◌≤◌, max, min, arith, subst, sym, refl, ap, ◌∙◌, cond, ltb, ◌||◌, true, false, Bool, List, [], ◌∷◌, ◌++◌, length, length-append}
 use Rattle.prem_wcet_laws.proofs.Prelude.{jump_weight, PmDone, sums_are_exact, within_same, chained_within, taking_within, greatest_within, job_weight, TaskPlaces, code_part, start_part}
 use Rattle.prem_wcet_laws.proofs.Prelude.{Plan, stretch_of, greatest_stated, Sums, taking, no_sums, chained, greatest, part_sums, sums_at, sums_behind, marked_sums, job_sums, IsWithin}
 use Rattle.prem_wcet_laws.proofs.Prelude.{parts_of, codes_of, is_marked_at, marked_before, stub_part, Plant, Routine, Resolved, marked_count, table_of, LongestIsWithin, called_least}
 use Rattle.prem_wcet_laws.proofs.Prelude.{own_jump, cuts, called_parted, Fact, no_fact, Scene, fact_of, charge, scene_of, stack_of, fact_at, at_function, facts_behind, known_scene}
-use Rattle.prem_wcet_laws.proofs.Prelude.{own_start, start_span, ◌≡◌, ℕ, zero, suc, ◌+◌, ◌-◌, ◌≤◌, max, min, arith, subst, sym, refl, ap, ◌∙◌, cond, ltb, ◌||◌, true, false, Bool, List, []}
-use Rattle.prem_wcet_laws.proofs.Prelude.{◌∷◌, ◌++◌, length, length-append, ltb-false, le-ltb, slice_index_or}
+use Rattle.prem_wcet_laws.proofs.Prelude.{own_start, start_span, ltb-false, le-ltb, slice_index_or}
 use Rattle.prem_wcet_laws.proofs.Facts.{codes_length, past}
 use Rattle.prem_wcet_laws.proofs.Ordered.{right_of}
 use Rattle.prem_wcet_laws.proofs.Split.{function_taken, function_sums}

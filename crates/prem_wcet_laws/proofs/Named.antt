@@ -1,10 +1,10 @@
 -- The globals that code names are all that it accesses.
+use Rattle.std.proofs.Common.{◌≡◌, ℕ, zero, suc, refl, ap, ◌∙◌, subst, cond, eqb, not, true, false, Bool, ◌&&◌, List, [], ◌∷◌, ◌++◌, inl, inr, Some, None, Option, Ok}
 use Rattle.prem_wcet_laws.proofs.Prelude.{performed, Access, and_then, words_of, cell, or_wrong, operate, unary_word, truth_of, eval, eval_all, IsAmong, callees_in, Term, Constant, Local}
 use Rattle.prem_wcet_laws.proofs.Prelude.{Scalar, Element, Unary, Binary, AndAlso, OrElse, Steps, Done, SetLocal, SetScalar, SetElement, Output, Input, If, For, While, Call, Routine, Limits}
 use Rattle.prem_wcet_laws.proofs.Prelude.{enter_if_there, this_or, calls_below, ProgramState, value, with_local, with_output, with_cell, stored, take_input, store, choose, holds, loop_step}
 use Rattle.prem_wcet_laws.proofs.Prelude.{in_bound, int_local, counting, bounded, with_target, declare, with_new_local, result_of, leave, enter, is_marked, narrowed, AreInside, CallsSame}
-use Rattle.prem_wcet_laws.proofs.Prelude.{globals_of, AreClosed, StepsNameAll, FunctionsNameAll, globals_in_term, globals_in, globals_in_terms, globals_in_result, ◌≡◌, ℕ, zero, suc, refl}
-use Rattle.prem_wcet_laws.proofs.Prelude.{ap, ◌∙◌, subst, cond, eqb, not, true, false, Bool, ◌&&◌, List, [], ◌∷◌, ◌++◌, inl, inr, Some, None, Option, Ok, eqb-true, slice_get}
+use Rattle.prem_wcet_laws.proofs.Prelude.{globals_of, AreClosed, StepsNameAll, FunctionsNameAll, globals_in_term, globals_in, globals_in_terms, globals_in_result, eqb-true, slice_get}
 use Rattle.prem_syntax.specs.Expressions.{Outcome}
 use Rattle.prem_syntax.specs.Statements.{Calls, run}
 use Rattle.prem_wcet_laws.proofs.Calls.{among_left, among_right}

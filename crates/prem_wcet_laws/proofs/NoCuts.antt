@@ -1,5 +1,6 @@
 -- Lists of callees without a marked call.
-use Rattle.prem_wcet_laws.proofs.Prelude.{◌≡◌, ℕ, sym, ◌∙◌, refl, ap, false, true, Bool, ◌||◌, List, [], ◌∷◌, ◌++◌, list_any-append, list_any}
+use Rattle.std.proofs.Common.{◌≡◌, ℕ, sym, ◌∙◌, refl, ap, false, true, Bool, ◌||◌, List, [], ◌∷◌, ◌++◌}
+use Rattle.prem_wcet_laws.proofs.Prelude.{list_any-append, list_any}
 
 pub none_first : (a b : Bool) → (a || b) ≡ false → a ≡ false
 none_first true b h = cc

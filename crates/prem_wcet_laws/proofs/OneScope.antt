@@ -1,13 +1,14 @@
 -- A list of statements runs as one scope.
+use Rattle.std.proofs.Common.{◌≡◌, ℕ, zero, suc, ◌+◌, ◌*◌, ◌^◌, ◌<◌, ◌≤◌, refl, ap, ◌∙◌, sym, subst, arith, eqb, leb, true, false, Bool, ◌&&◌, ◌||◌, List, [], ◌∷◌, ◌++◌, inl, inr, ◌⊎◌}
+use Rattle.std.proofs.Common.{length, Option, None, Some, Ok}
 use Rattle.prem_wcet_laws.proofs.Prelude.{guard_grows, size_of, Guard, Setting, Calls, Ending, Falls, Returns, Stuck, all_of, run, AllSteps, Holds, Same, Grows, Within, total, each_function}
 use Rattle.prem_wcet_laws.proofs.Prelude.{each_steps, steps_end, functions_run, Globals, Stack, Ground, Callees, StepsFit, with_globals, CalleesAt, Matches, at_frame, Codes, one_of}
 use Rattle.prem_wcet_laws.proofs.Prelude.{code_calls, TaskFits, TaskState, Did, Phase, line_cost, part_weight, weight_at, lines_of, code_part, Parts, steps_code, function_code, Extent}
 use Rattle.prem_wcet_laws.proofs.Prelude.{Plant, Access, IsAmong, callees_in, Steps, Done, SetLocal, SetScalar, SetElement, Output, Input, If, For, While, Call, Routine, calls_below}
 use Rattle.prem_wcet_laws.proofs.Prelude.{ProgramState, Weighs, KeepsTo, weight_of, scope_charge, StaysOn, is_held, confined_to, AccessIn, IsIn, IsNative, narrowed, AreClosed, HasExtent}
 use Rattle.prem_wcet_laws.proofs.Prelude.{AreOf, Stands, StepsAreScopes, Scene, fact_of, extent_of, is_roomy, roomy_lines, scope_weight, places_behind, code_ranges, data_ranges, data_lines}
-use Rattle.prem_wcet_laws.proofs.Prelude.{lines_in, path_weight, span_of, globals_in, PlaceWeight, ◌≡◌, ℕ, zero, suc, ◌+◌, ◌*◌, ◌^◌, ◌<◌, ◌≤◌, refl, ap, ◌∙◌, sym, subst, arith, eqb, leb}
-use Rattle.prem_wcet_laws.proofs.Prelude.{true, false, Bool, ◌&&◌, ◌||◌, List, [], ◌∷◌, ◌++◌, inl, inr, ◌⊎◌, length, Option, None, Some, Ok, and_parts, and_from, or_cases, or_right}
-use Rattle.prem_wcet_laws.proofs.Prelude.{leb-true, le-leb, eqb-true, list_any, list_all, slice_get, map}
+use Rattle.prem_wcet_laws.proofs.Prelude.{lines_in, path_weight, span_of, globals_in, PlaceWeight, and_parts, and_from, or_cases, or_right, leb-true, le-leb, eqb-true, list_any, list_all}
+use Rattle.prem_wcet_laws.proofs.Prelude.{slice_get, map}
 use Rattle.prem_syntax.specs.Statements.{run as run_source}
 use Rattle.prem_wcet_laws.proofs.Calls.{steps_call, function_calls}
 use Rattle.prem_wcet_laws.proofs.Held.{has_left, has_right, has_mapped, has_flat, held_by, held_left, held_right, held_line}

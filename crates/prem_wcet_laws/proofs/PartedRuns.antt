@@ -1,4 +1,6 @@
 -- Lists of statements with marked calls run in scopes and marked calls, charged no more than their parted charge.
+use Rattle.std.proofs.Common.{◌≡◌, ◌≢◌, ℕ, zero, suc, ◌+◌, ◌-◌, ◌*◌, ◌%◌, ◌^◌, ◌<◌, ◌≤◌, refl, ap, ◌∙◌, sym, subst, arith, cond, eqb, eq-eqb, not, true, false, Bool, List, [], ◌∷◌, ◌++◌}
+use Rattle.std.proofs.Common.{append_assoc, inl, inr, length, Option, Ok, append-nil, Some, None}
 use Rattle.prem_wcet_laws.proofs.Prelude.{run-followed, words-followed, choose_both, Pieces, no_pieces, straight, either, repeat, call_to, followed, words, size_of, branch_of, skip_words}
 use Rattle.prem_wcet_laws.proofs.Prelude.{skip_at, other_at, either_end, test_at, back_at, repeat_end, jump_to, EachPiece, Setting, Calls, Ending, Falls, Returns, Stuck, with_trace}
 use Rattle.prem_wcet_laws.proofs.Prelude.{then_run, called, control, test_holds, taken_steps, other_steps, skip_steps, linked, run, Test, each_bound, each_count, each_counter, each_first}
@@ -12,9 +14,7 @@ use Rattle.prem_wcet_laws.proofs.Prelude.{Limits, calls_below, ProgramState, val
 use Rattle.prem_wcet_laws.proofs.Prelude.{loop_step, counting, bounded, with_target, Place, PathCount, quiet, then_count, IsNoMore, Divides, RunDivides, Courses, RunCourses, IsNative, own}
 use Rattle.prem_wcet_laws.proofs.Prelude.{own_jump, term_of, bound_code, first_code, counter_code, turn_of, taken_place, other_place, body_place, least, narrowed, cuts, has_cut, front}
 use Rattle.prem_wcet_laws.proofs.Prelude.{by_cut, Edge, no_edge, passing, landing, next_edge, passage, Begun, counted, begins, opened, called_parted, choice_count, turn_count, landing_place}
-use Rattle.prem_wcet_laws.proofs.Prelude.{parted, Mixes, StepsCourse, Stands, Scene, number_at, put_number, value_in, truth, Int, ◌≡◌, ◌≢◌, ℕ, zero, suc, ◌+◌, ◌-◌, ◌*◌, ◌%◌, ◌^◌, ◌<◌, ◌≤◌}
-use Rattle.prem_wcet_laws.proofs.Prelude.{refl, ap, ◌∙◌, sym, subst, arith, cond, eqb, eq-eqb, not, true, false, Bool, List, [], ◌∷◌, ◌++◌, append_assoc, inl, inr, length, Option, Ok}
-use Rattle.prem_wcet_laws.proofs.Prelude.{append-nil, Some, None, eqb-suc-zero, and_parts, list_any, slice_index}
+use Rattle.prem_wcet_laws.proofs.Prelude.{parted, Mixes, StepsCourse, Stands, Scene, number_at, put_number, value_in, truth, Int, eqb-suc-zero, and_parts, list_any, slice_index}
 use Rattle.prem_code_laws.proofs.GenLawsLemmas.Counting.{headed, stepped, tested as bound_tested}
 use Rattle.prem_syntax.specs.Expressions.{Outcome}
 use Rattle.prem_syntax.specs.Statements.{run as run_source}

@@ -1,4 +1,6 @@
 -- Passages between marked calls: as one scope, or by their parts.
+use Rattle.std.proofs.Common.{map, ◌≡◌, ℕ, suc, ◌+◌, ◌-◌, ◌*◌, ◌%◌, ◌^◌, ◌<◌, ◌≤◌, refl, ap, ◌∙◌, sym, subst, arith, true, false, Bool, leb, ltb, List, [], ◌∷◌, ◌++◌, length, Option, Some}
+use Rattle.std.proofs.Common.{Ok, ◌⊎◌, inl, inr}
 use Rattle.prem_wcet_laws.proofs.Prelude.{run-followed, guard_grows, Pieces, no_pieces, followed, size_of, EachPiece, Guard, Setting, Calls, Ending, Falls, Returns, Stuck, with_trace}
 use Rattle.prem_wcet_laws.proofs.Prelude.{then_run, run, AllSteps, Holds, Same, Within, total as total_of, each_arguments, each_closing, each_declared, each_result, each_steps, each_target}
 use Rattle.prem_wcet_laws.proofs.Prelude.{globals_stack, steps_end, functions_run, Globals, GlobalsStand, Stack, Ground, AllFit, Callees, StepsFit, DeclaredFit, ResultFits, Between}
@@ -7,9 +9,7 @@ use Rattle.prem_wcet_laws.proofs.Prelude.{frame_of, Parts, steps_code, argument_
 use Rattle.prem_wcet_laws.proofs.Prelude.{Routine, Limits, calls_below, ProgramState, values, declare, result_of, StaysOn, KeepsTo, Divides, RunDivides, weight_of, is_held, confined_to}
 use Rattle.prem_wcet_laws.proofs.Prelude.{IsNative, IsIn, own, least, narrowed, Edge, no_edge, entry, leaving, landing, passing, bottom_of, argument_ranges, passage_span, passage_data}
 use Rattle.prem_wcet_laws.proofs.Prelude.{passage_charge, passage_apart, passage, Stands, Scene, fact_of, code_ranges, data_ranges, extent_of, path_weight, scope_weight, is_roomy}
-use Rattle.prem_wcet_laws.proofs.Prelude.{globals_in, globals_in_terms, globals_in_result, number_at, put_number, ◌≡◌, ℕ, suc, ◌+◌, ◌-◌, ◌*◌, ◌%◌, ◌^◌, ◌<◌, ◌≤◌, refl, ap, ◌∙◌, sym, subst}
-use Rattle.prem_wcet_laws.proofs.Prelude.{arith, true, false, Bool, leb, ltb, List, [], ◌∷◌, ◌++◌, length, Option, Some, Ok, ◌⊎◌, inl, inr, and_parts, and_from, leb-true, ltb-true, list_all}
-use Rattle.prem_wcet_laws.proofs.Prelude.{flat_map}
+use Rattle.prem_wcet_laws.proofs.Prelude.{globals_in, globals_in_terms, globals_in_result, number_at, put_number, and_parts, and_from, leb-true, ltb-true, list_all, flat_map}
 use Rattle.prem_code_laws.proofs.Emitted.{joined as native_joined}
 use Rattle.prem_syntax.specs.Statements.{run as run_source}
 use Rattle.prem_wcet_laws.proofs.Alone.{CallFree, free_any, own_divides}
@@ -26,7 +26,6 @@ use Rattle.prem_wcet_laws.proofs.PlaceCost.{run_in}
 use Rattle.prem_wcet_laws.proofs.ScopeCosts.{scope_weighs}
 use Rattle.prem_wcet_laws.proofs.Sequence.{lesser}
 use Rattle.prem_wcet_laws.proofs.Takes.{emits_native}
-use Rattle.std.proofs.Common.{map}
 use Rattle.std.specs.Prelude.{◌&&◌, ◌||◌}
 
 -- ---- runs that aren't stuck

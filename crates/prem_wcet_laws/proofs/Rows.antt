@@ -1,5 +1,6 @@
 -- Worked programs: what their jobs take at most, computed.
-use Rattle.prem_wcet_laws.proofs.Prelude.{turned, Plant, wcet_of, longest_wcet_of, Add as AddOp, ◌≡◌, refl, ℕ, List, [], ◌∷◌, None, Some, codes}
+use Rattle.std.proofs.Common.{map, ◌≡◌, refl, ℕ, List, [], ◌∷◌, None, Some}
+use Rattle.prem_wcet_laws.proofs.Prelude.{turned, Plant, wcet_of, longest_wcet_of, Add as AddOp, codes}
 use Rattle.prem_layout.proofs.Samples.{m_text, m_turns, fir_text, fir_turns, calls_text, calls_turns}
 use Rattle.prem_layout.proofs.Tasks.{coded, placed}
 use Rattle.prem_layout.specs.Facts.{job_fact}
@@ -8,7 +9,6 @@ use Rattle.prem_plant.specs.Ranges.{default_plant as plant}
 use Rattle.prem_syntax.proofs.Samples.{at, int, statements, one_name, parameter, local, global, function}
 use Rattle.prem_syntax.specs.Syntax.{ProgramText, variable, element, binary, block, counting_for, output, call, absent}
 use Rattle.prem_syntax.specs.declared.tree.Ty.TheVariants.{Void, Int as IntTy}
-use Rattle.std.proofs.Common.{map}
 use Rattle.std.specs.Prelude.{false}
 
 abbrev rules : Plant → List Coded → List ℕ

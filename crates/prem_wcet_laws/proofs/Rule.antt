@@ -1,11 +1,11 @@
 -- Least and parted charges are no more than the rule's weights.
+use Rattle.std.proofs.Common.{◌≡◌, ℕ, ◌+◌, ◌*◌, ◌≤◌, arith, subst, sym, refl, ap, ◌∙◌, true, false, Bool, [], ◌∷◌}
 use Rattle.prem_wcet_laws.proofs.Prelude.{Pieces, no_pieces, straight, either, repeat, call_to, followed, branch_of, skip_words, weighted, size_of, Test, job_weight, counters_in, locals_of}
 use Rattle.prem_wcet_laws.proofs.Prelude.{frame_of, store_slot, bound_test, step_code, count_code, argument_code, target_code, steps_code, closing, result_code, function_code, only, nonzero}
-use Rattle.prem_wcet_laws.proofs.Prelude.{Steps, Done, SetLocal, SetScalar, SetElement, Output, Input, If, For, While, Call, Routine, PathCount, own, own_jump, own_turns, own_choice, term_of}
-use Rattle.prem_wcet_laws.proofs.Prelude.{bound_code, first_code, counter_code, turn_of, taken_place, other_place, body_place, behind, called_least, single, apart, least, declared, body_at}
-use Rattle.prem_wcet_laws.proofs.Prelude.{own_around, least_function, has_cut, by_cut, front, Edge, no_edge, entry, leaving, passing, landing, next_edge, passage, Begun, counted, begins}
-use Rattle.prem_wcet_laws.proofs.Prelude.{opened, called_parted, landing_place, parted, parted_function, Scene, ◌≡◌, ℕ, ◌+◌, ◌*◌, ◌≤◌, arith, subst, sym, refl, ap, ◌∙◌, true, false, Bool}
-use Rattle.prem_wcet_laws.proofs.Prelude.{[], ◌∷◌}
+use Rattle.prem_wcet_laws.proofs.Prelude.{Steps, Done, SetLocal, SetScalar, SetElement, Output, Input, If, For, While, Call, Routine, PathCount, own, own_jump, own_turns, own_choice}
+use Rattle.prem_wcet_laws.proofs.Prelude.{term_of, bound_code, first_code, counter_code, turn_of, taken_place, other_place, body_place, behind, called_least, single, apart, least, declared}
+use Rattle.prem_wcet_laws.proofs.Prelude.{body_at, own_around, least_function, has_cut, by_cut, front, Edge, no_edge, entry, leaving, passing, landing, next_edge, passage, Begun, counted}
+use Rattle.prem_wcet_laws.proofs.Prelude.{begins, opened, called_parted, landing_place, parted, parted_function, Scene}
 use Rattle.prem_wcet_laws.proofs.Ordered.{right_of, both_less, turns_less, choice_less, weighted-followed, own_less}
 use Rattle.prem_wcet_laws.proofs.Shape.{first_local, first_scalar, first_element, first_output, first_input, first_if, first_for, first_while, first_call}
 

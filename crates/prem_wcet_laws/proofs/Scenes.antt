@@ -1,9 +1,10 @@
 -- The facts of a task's functions are scenes of its code.
+use Rattle.std.proofs.Common.{◌≡◌, ℕ, zero, suc, ◌+◌, ◌<◌, ◌≤◌, refl, ap, ◌∙◌, sym, subst, arith, cond, eq-eqb, true, false, List, [], ◌∷◌, ◌++◌, append_assoc, append-nil, length}
+use Rattle.std.proofs.Common.{length-append, inl, inr, Some}
 use Rattle.prem_wcet_laws.proofs.Prelude.{run, differs, TaskPlaces, place_at, code_part, Plan, parts_of, is_marked_at, function_code, Extent, Plant, IsAmong, callees_in, Routine, Resolved}
 use Rattle.prem_wcet_laws.proofs.Prelude.{everywhere, is_marked, RunDivides, is_held, least_function, globals_of, facts_in, scene_in, ScenesStand, QuietJobsDivide, FactStands, Fact, no_fact}
-use Rattle.prem_wcet_laws.proofs.Prelude.{Scene, fact_of, extent_of, frame_range, below_range, stack_of, known_scene, scene_of, fact_at, at_function, facts_behind, ◌≡◌, ℕ, zero, suc, ◌+◌}
-use Rattle.prem_wcet_laws.proofs.Prelude.{◌<◌, ◌≤◌, refl, ap, ◌∙◌, sym, subst, arith, cond, eq-eqb, true, false, List, [], ◌∷◌, ◌++◌, append_assoc, append-nil, length, length-append, inl}
-use Rattle.prem_wcet_laws.proofs.Prelude.{inr, Some, length-take-le, slice_get_within, slice_index_or, slice_get, map, unwrap_or, option_map}
+use Rattle.prem_wcet_laws.proofs.Prelude.{Scene, fact_of, extent_of, frame_range, below_range, stack_of, known_scene, scene_of, fact_at, at_function, facts_behind, length-take-le}
+use Rattle.prem_wcet_laws.proofs.Prelude.{slice_get_within, slice_index_or, slice_get, map, unwrap_or, option_map}
 use Rattle.prem_wcet_laws.proofs.CallRuns.{frames_work}
 use Rattle.prem_wcet_laws.proofs.FunctionRuns.{functions_divide}
 use Rattle.prem_wcet_laws.proofs.Held.{has_left, has_right, has_mapped, has_flat, held_left}

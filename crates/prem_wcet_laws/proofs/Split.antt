@@ -1,12 +1,12 @@
 -- The four sums of parted statements are within those of their code.
+use Rattle.std.proofs.Common.{◌≡◌, ℕ, ◌+◌, ◌*◌, ◌≤◌, min, arith, subst, sym, refl, ap, ◌∙◌, true, false, Bool, List, [], ◌∷◌, ◌++◌, length}
 use Rattle.prem_wcet_laws.proofs.Prelude.{Pieces, no_pieces, straight, either, repeat, call_to, followed, branch_of, skip_words, size_of, Test, chained_assoc, none_taken, within_same}
 use Rattle.prem_wcet_laws.proofs.Prelude.{within_then, chained_within, job_weight, Sums, taking, chained, turned, summed, IsWithin, among, counters_in, locals_of, frame_of, store_slot}
 use Rattle.prem_wcet_laws.proofs.Prelude.{bound_test, step_code, count_code, argument_code, target_code, steps_code, opening, closing, result_code, function_code, only, nonzero, callees_in}
 use Rattle.prem_wcet_laws.proofs.Prelude.{Term, Steps, Done, SetLocal, SetScalar, SetElement, Output, Input, If, For, While, Call, Routine, PathCount, own, own_jump, own_turns, own_choice}
 use Rattle.prem_wcet_laws.proofs.Prelude.{term_of, bound_code, first_code, counter_code, turn_of, taken_place, other_place, body_place, behind, called_least, single, apart, least, declared}
 use Rattle.prem_wcet_laws.proofs.Prelude.{body_at, own_before, own_behind, least_function, cuts, has_cut, front, by_cut, Edge, no_edge, entry, leaving, passing, landing, next_edge}
-use Rattle.prem_wcet_laws.proofs.Prelude.{passage_apart, Begun, counted, begins, opened, called_parted, landing_place, parted, parted_function, Scene, ◌≡◌, ℕ, ◌+◌, ◌*◌, ◌≤◌, min, arith}
-use Rattle.prem_wcet_laws.proofs.Prelude.{subst, sym, refl, ap, ◌∙◌, true, false, Bool, List, [], ◌∷◌, ◌++◌, length}
+use Rattle.prem_wcet_laws.proofs.Prelude.{passage_apart, Begun, counted, begins, opened, called_parted, landing_place, parted, parted_function, Scene}
 use Rattle.prem_wcet_laws.proofs.Calls.{EachCall, term_calls, arguments_call, target_calls, declared_call, result_calls, joined}
 use Rattle.prem_wcet_laws.proofs.Counting.{none_behind}
 use Rattle.prem_wcet_laws.proofs.NoCuts.{none_first, none_second, none_left, none_right, none_loop, none_choice}

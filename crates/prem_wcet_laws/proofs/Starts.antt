@@ -1,10 +1,10 @@
 -- The start of a job without marked calls is one scope with its call and the job's end.
+use Rattle.std.proofs.Common.{lt-ltb, ◌≡◌, ℕ, zero, suc, ◌+◌, ◌*◌, ◌<◌, ◌≤◌, refl, ap, ◌∙◌, sym, subst, arith, cond, eq-eqb, List, [], ◌∷◌, ◌++◌, append_assoc, append-nil, length, take}
+use Rattle.std.proofs.Common.{Some, None, inl, true}
 use Rattle.prem_wcet_laws.proofs.Prelude.{jump_to, AllSteps, total, Did, Stay, Compatible, PmDone, line_cost, part_weight, weight_at, start_code, place_at, code_part, start_part, Extent}
 use Rattle.prem_wcet_laws.proofs.Prelude.{everywhere, KeepsTo, StaysOn, weight_of, step_charge, is_held, AccessIn, IsIn, facts_in, scene_in, Fact, no_fact, fact_of, extent_of, code_ranges}
 use Rattle.prem_wcet_laws.proofs.Prelude.{data_ranges, data_lines, lines_in, charge, scope_weight, is_roomy, roomy_lines, path_weight, places_behind, function_span, frame_range, below_range}
-use Rattle.prem_wcet_laws.proofs.Prelude.{stack_of, known_scene, scene_of, fact_at, start_span, PlaceWeight, weighted_from, jump_from, ◌≡◌, ℕ, zero, suc, ◌+◌, ◌*◌, ◌<◌, ◌≤◌, refl, ap, ◌∙◌}
-use Rattle.prem_wcet_laws.proofs.Prelude.{sym, subst, arith, cond, eq-eqb, List, [], ◌∷◌, ◌++◌, append_assoc, append-nil, length, take, Some, None, inl, true, slice_get_within, list_all}
-use Rattle.prem_wcet_laws.proofs.Prelude.{flat_map, slice_index_or}
+use Rattle.prem_wcet_laws.proofs.Prelude.{stack_of, known_scene, scene_of, fact_at, start_span, PlaceWeight, weighted_from, jump_from, slice_get_within, list_all, flat_map, slice_index_or}
 use Rattle.prem_asm.specs.OwnRun.{done_step}
 use Rattle.prem_wcet_laws.proofs.CallRuns.{frames_work}
 use Rattle.prem_wcet_laws.proofs.FunctionRuns.{kept_here}
@@ -13,7 +13,6 @@ use Rattle.prem_wcet_laws.proofs.OneScope.{line_kept, all_kept}
 use Rattle.prem_wcet_laws.proofs.Scenes.{IsFact, each_fact, taken_length, facts_length, scenes_stand}
 use Rattle.prem_wcet_laws.proofs.ScopeCosts.{scope_weighs, steps_less}
 use Rattle.prem_wcet_laws.specs.Starts.{RunStarts, QuietStartsAreScopes}
-use Rattle.std.proofs.Common.{lt-ltb}
 use Rattle.std.proofs.lemmas.List.{length-append}
 
 -- ---- weights of functions that are known

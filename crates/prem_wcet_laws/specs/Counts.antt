@@ -1,5 +1,6 @@
 -- What the paths of code count at most: in all, and in the four sums between marked calls.
-use Rattle.prem_wcet_laws.specs.Prelude.{marked_weights, Plan, Sums, no_sums, taking, among, chained, turned, marked_sums, IsWithin, Plant, ◌≤◌, ℕ, ◌+◌, ◌*◌, max, List}
+use Rattle.std.specs.Prelude.{◌≤◌, ℕ, ◌+◌, ◌*◌, max, List}
+use Rattle.prem_wcet_laws.specs.Prelude.{marked_weights, Plan, Sums, no_sums, taking, among, chained, turned, marked_sums, IsWithin, Plant}
 
 pub record PathCount : Type 0 where
   pub total : ℕ

@@ -1,7 +1,7 @@
 -- A run's instructions part into scopes, one behind another, and such that stand alone.
+use Rattle.std.specs.Prelude.{◌≡◌, ◌≤◌, ℕ, ℤ, pos, ◌+◌, ◌*◌, ◌/◌, List, [], ◌∷◌, ◌++◌, length, Option, None, Some}
 use Rattle.prem_wcet_laws.specs.Prelude.{Pieces, Setting, Calls, Ending, Falls, Returns, Stuck, run, total, Within, AllSteps, cost_of, TaskState, Did, Stay, Add, Lui, Jal, Jalr, OpImm}
-use Rattle.prem_wcet_laws.specs.Prelude.{PmMem, line_cost, job_weight, Path, Takes, Cuts, sums_of_path, Plant, IsAmong, ◌≡◌, ◌≤◌, ℕ, ℤ, pos, ◌+◌, ◌*◌, ◌/◌, List, [], ◌∷◌, ◌++◌, length}
-use Rattle.prem_wcet_laws.specs.Prelude.{Option, None, Some}
+use Rattle.prem_wcet_laws.specs.Prelude.{PmMem, line_cost, job_weight, Path, Takes, Cuts, sums_of_path, Plant, IsAmong}
 use Rattle.prem_isa.specs.declared.effect.Access.{Access}
 use Rattle.prem_wcet_laws.specs.Counts.{PathCount, IsNoMore}
 use Rattle.prem_wcet_laws.specs.Scopes.{is_roomy, roomy_lines, crowd_cost}

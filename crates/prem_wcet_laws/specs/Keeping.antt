@@ -1,6 +1,6 @@
 -- Runs that keep to ranges of bytes: what they fetch, load and store lies in these.
-use Rattle.prem_wcet_laws.specs.Prelude.{Pieces, size_of, Guard, Did, Instr, Load, Store, Ecall, Ebreak, PmMem, PmExec, PmEnd, PmDone, Extent, list_any, ◌≡◌, ◌<◌, ◌≤◌, ⊤, ℕ, zero, suc, ◌+◌}
-use Rattle.prem_wcet_laws.specs.Prelude.{nat_le, nat_lt, Bool, true, false, ◌&&◌, List, Option, None, Some}
+use Rattle.std.specs.Prelude.{◌≡◌, ◌<◌, ◌≤◌, ⊤, ℕ, zero, suc, ◌+◌, nat_le, nat_lt, Bool, true, false, ◌&&◌, List, Option, None, Some}
+use Rattle.prem_wcet_laws.specs.Prelude.{Pieces, size_of, Guard, Did, Instr, Load, Store, Ecall, Ebreak, PmMem, PmExec, PmEnd, PmDone, Extent, list_any}
 use Rattle.prem_isa.specs.declared.effect.Access.{Access}
 use Rattle.prem_wcet_laws.specs.Divided.{StaysOn}
 

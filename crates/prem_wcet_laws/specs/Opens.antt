@@ -1,6 +1,6 @@
 -- When a marked call's interval opens the bus, and plans with shorter lengths.
-use Rattle.prem_wcet_laws.specs.Prelude.{Pieces, no_pieces, straight, address_code, weighted, cost_of, line_cost, TaskPlaces, ranges_of, footprint_of, stub_passes, Plan, Plant, ℕ, ◌+◌, ◌*◌}
-use Rattle.prem_wcet_laws.specs.Prelude.{min, length}
+use Rattle.std.specs.Prelude.{ℕ, ◌+◌, ◌*◌, min, length}
+use Rattle.prem_wcet_laws.specs.Prelude.{Pieces, no_pieces, straight, address_code, weighted, cost_of, line_cost, TaskPlaces, ranges_of, footprint_of, stub_passes, Plan, Plant}
 use Rattle.prem_layout.specs.Stubs.{passes_code}
 
 -- what stands between a stub's `pm.mem` and its `pm.exec`

@@ -1,8 +1,8 @@
 -- Charges of statements with marked calls: what stands between two of these is one passage, and counts its least charge.
+use Rattle.std.specs.Prelude.{ℕ, ◌+◌, ◌-◌, ◌*◌, min, Bool, true, false, ◌||◌, Option, if◌then◌else◌, List, [], ◌∷◌, ◌++◌, length}
 use Rattle.prem_wcet_laws.specs.Prelude.{Pieces, no_pieces, straight, followed, size_of, branch_of, skip_words, Test, job_weight, lines_of, counters_in, locals_of, frame_of, bound_test}
 use Rattle.prem_wcet_laws.specs.Prelude.{step_code, count_code, argument_code, target_code, steps_code, opening, closing, result_code, only, nonzero, Extent, callees_in, Term, Steps, Done}
-use Rattle.prem_wcet_laws.specs.Prelude.{SetLocal, SetScalar, SetElement, Output, Input, If, For, While, Call, Routine, list_any, ℕ, ◌+◌, ◌-◌, ◌*◌, min, Bool, true, false, ◌||◌, Option}
-use Rattle.prem_wcet_laws.specs.Prelude.{if◌then◌else◌, List, [], ◌∷◌, ◌++◌, length}
+use Rattle.prem_wcet_laws.specs.Prelude.{SetLocal, SetScalar, SetElement, Output, Input, If, For, While, Call, Routine, list_any}
 use Rattle.prem_wcet_laws.specs.Counts.{PathCount, quiet, then_count, either_count, turned_count, marked_count}
 use Rattle.prem_wcet_laws.specs.Least.{own, own_jump, term_of, bound_code, first_code, counter_code, turn_of, taken_place, other_place, body_place, behind, least, declared}
 use Rattle.prem_wcet_laws.specs.Scopes.{Span, Scene, fact_of, code_ranges, data_ranges, charge_with, globals_in, globals_in_terms, globals_in_result}

@@ -1,7 +1,8 @@
 -- Lists of statements with marked calls run in scopes and marked calls, which together are charged no more than their parted charge.
+use Rattle.std.specs.Prelude.{◌≡◌, ◌<◌, ◌≤◌, ℕ, ◌+◌, ◌-◌, ◌%◌, ◌^◌, Bool, true, false, List, length, Ok}
 use Rattle.prem_wcet_laws.specs.Prelude.{size_of, Setting, Calls, Ending, run, Globals, Stack, Callees, StepsFit, FunctionFits, performed, Between, CalleesAt, Matches, ArgumentsStand, Codes}
 use Rattle.prem_wcet_laws.specs.Prelude.{TaskState, Did, Phase, counters_in, slots_of, frame_of, Parts, steps_code, function_code, Plant, Outcome, Access, Steps, Routine, Limits}
-use Rattle.prem_wcet_laws.specs.Prelude.{calls_below, ProgramState, ◌≡◌, ◌<◌, ◌≤◌, ℕ, ◌+◌, ◌-◌, ◌%◌, ◌^◌, Bool, true, false, List, length, Ok}
+use Rattle.prem_wcet_laws.specs.Prelude.{calls_below, ProgramState}
 use Rattle.prem_syntax.specs.Statements.{run as run_source}
 use Rattle.prem_wcet_laws.specs.Counts.{PathCount}
 use Rattle.prem_wcet_laws.specs.Divided.{RunCourses}

@@ -38,5 +38,3 @@ pub use Rattle.prem_syntax.specs.Resolved.{Steps, Term, Unary, While}
 pub use Rattle.prem_syntax.specs.Source.{Limits, calls_below, everywhere}
 pub use Rattle.prem_syntax.specs.Statements.{ProgramState}
 pub use Rattle.std.specs.List.{flat_map, list_all, list_any}
-pub use Rattle.std.specs.Prelude.{Bool, List, None, Ok, Option, Some, [], false, filter, if◌then◌else◌, length, map, max, min, nat_le, nat_lt, pos, slice_get, slice_index_or, suc, take}
-pub use Rattle.std.specs.Prelude.{true, zero, ℕ, ℤ, ⊤, ◌%◌, ◌&&◌, ◌*◌, ◌++◌, ◌+◌, ◌-◌, ◌/◌, ◌<◌, ◌==◌, ◌^◌, ◌||◌, ◌∷◌, ◌≡◌, ◌≤◌, ◌⊎◌}

@@ -1,7 +1,8 @@
 -- A list of statements runs as one scope.
+use Rattle.std.specs.Prelude.{◌≡◌, ◌⊎◌, ◌<◌, ◌≤◌, ℕ, ◌+◌, ◌%◌, ◌^◌, true, List, [], ◌∷◌, length, slice_get, Some, Ok}
 use Rattle.prem_wcet_laws.specs.Prelude.{size_of, Setting, Calls, Falls, run, AllSteps, Same, Globals, Stack, Ground, element_size, element_at, Callees, StepsFit, with_globals, Matches}
 use Rattle.prem_wcet_laws.specs.Prelude.{Codes, code_calls, TaskFits, TaskState, Did, Phase, code_part, counters_in, Parts, steps_code, function_code, Extent, Access, IsAmong, callees_in}
-use Rattle.prem_wcet_laws.specs.Prelude.{Steps, Routine, Limits, calls_below, ProgramState, ◌≡◌, ◌⊎◌, ◌<◌, ◌≤◌, ℕ, ◌+◌, ◌%◌, ◌^◌, true, List, [], ◌∷◌, length, slice_get, Some, Ok}
+use Rattle.prem_wcet_laws.specs.Prelude.{Steps, Routine, Limits, calls_below, ProgramState}
 use Rattle.prem_syntax.specs.Statements.{run as run_source}
 use Rattle.prem_wcet_laws.specs.Divided.{KeepsTo, scope_charge, StaysOn}
 use Rattle.prem_wcet_laws.specs.Keeping.{is_held}

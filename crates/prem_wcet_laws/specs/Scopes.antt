@@ -1,8 +1,8 @@
 -- Scopes: code that runs within one compatible interval, with the collection of the lines that it may touch, and its charge.
+use Rattle.std.specs.Prelude.{ℕ, ◌+◌, ◌*◌, ◌/◌, ◌%◌, nat_le, Bool, true, Option, None, Some, if◌then◌else◌, List, [], ◌∷◌, ◌++◌, length, map, filter, slice_index_or}
 use Rattle.prem_wcet_laws.specs.Prelude.{Pieces, no_pieces, size_of, cost_of, Load, Store, line_cost, part_weight, weight_at, lines_of, count_in, code_part, Plan, Parts, steps_code}
 use Rattle.prem_wcet_laws.specs.Prelude.{function_code, Extent, Plant, callees_in, Term, Constant, Local, Scalar, Element, Unary, Binary, AndAlso, OrElse, Steps, Done, SetLocal, SetScalar}
-use Rattle.prem_wcet_laws.specs.Prelude.{SetElement, Output, Input, If, For, While, Call, Routine, list_all, flat_map, ℕ, ◌+◌, ◌*◌, ◌/◌, ◌%◌, nat_le, Bool, true, Option, None, Some}
-use Rattle.prem_wcet_laws.specs.Prelude.{if◌then◌else◌, List, [], ◌∷◌, ◌++◌, length, map, filter, slice_index_or}
+use Rattle.prem_wcet_laws.specs.Prelude.{SetElement, Output, Input, If, For, While, Call, Routine, list_all, flat_map}
 use Rattle.prem_wcet_laws.specs.Counts.{PathCount, no_count}
 use Rattle.prem_wcet_laws.specs.Weights.{PlaceWeight, weighted_from}
 

@@ -1,8 +1,8 @@
 -- The start of a job without marked calls, its call, and the job's end as one scope.
+use Rattle.std.specs.Prelude.{◌≡◌, ◌<◌, ◌≤◌, ℕ, ◌+◌, ◌%◌, ◌^◌, None, Ok, List, [], ◌∷◌, ◌++◌, length, slice_get, Some}
 use Rattle.prem_wcet_laws.specs.Prelude.{jump_to, Setting, Calls, Ending, Falls, Returns, Stuck, run, Same, AllSteps, Globals, Stack, Ground, Callees, FunctionFits, performed, Between}
 use Rattle.prem_wcet_laws.specs.Prelude.{ArgumentsStand, Codes, code_calls, TaskState, Did, Stay, Phase, TaskPlaces, place_at, start_part, Plan, slots_of, frame_of, parts_of, Parts}
-use Rattle.prem_wcet_laws.specs.Prelude.{function_code, Plant, Routine, Resolved, Limits, calls_below, everywhere, ProgramState, ◌≡◌, ◌<◌, ◌≤◌, ℕ, ◌+◌, ◌%◌, ◌^◌, None, Ok, List, [], ◌∷◌}
-use Rattle.prem_wcet_laws.specs.Prelude.{◌++◌, length, slice_get, Some}
+use Rattle.prem_wcet_laws.specs.Prelude.{function_code, Plant, Routine, Resolved, Limits, calls_below, everywhere, ProgramState}
 use Rattle.prem_asm.specs.OwnRun.{done_step}
 use Rattle.prem_isa.specs.declared.effect.Phase.TheVariants.{Compatible}
 use Rattle.prem_wcet_laws.specs.Divided.{KeepsTo, StaysOn, scope_charge}

@@ -1,7 +1,7 @@
 -- What a job of a task really takes at most, and its longest stretch with the switch before it.
+use Rattle.std.specs.Prelude.{ℕ, ◌+◌, ◌-◌, ◌==◌, max, min, if◌then◌else◌, List, [], ◌∷◌, ◌++◌, length}
 use Rattle.prem_wcet_laws.specs.Prelude.{PmDone, start_code, job_weight, TaskPlaces, place_at, global_range, stack_place, code_part, start_part, Plan, greatest_stated, taking, chained}
-use Rattle.prem_wcet_laws.specs.Prelude.{greatest, frame_at, parts_of, is_marked_at, marked_before, function_code, Extent, Plant, Routine, Resolved, ℕ, ◌+◌, ◌-◌, ◌==◌, max, min}
-use Rattle.prem_wcet_laws.specs.Prelude.{if◌then◌else◌, List, [], ◌∷◌, ◌++◌, length}
+use Rattle.prem_wcet_laws.specs.Prelude.{greatest, frame_at, parts_of, is_marked_at, marked_before, function_code, Extent, Plant, Routine, Resolved}
 use Rattle.prem_wcet_laws.specs.Least.{own_jump, least_function}
 use Rattle.prem_wcet_laws.specs.Parted.{has_cut, parted_function}
 use Rattle.prem_wcet_laws.specs.Scopes.{Fact, Scene, fact_of, Span, code_ranges, data_ranges, charge, function_span}

@@ -1,8 +1,9 @@
 -- The functions that a tree calls are those that its steps call.
+use Rattle.std.proofs.Common.{◌≡◌, ℕ, ◌+◌, List, [], ◌∷◌, ◌++◌, map, refl, ap, sym, ◌∙◌}
 use Rattle.prem_analysis.proofs.Prelude.{called, row_called, list_called, items_of, Sequence, callees_in, callee_table, Steps, Done, loops_of, step_before, row_before, routines_of}
 use Rattle.prem_analysis.proofs.Prelude.{Routine as RoutineTree, Step, Block, Row_of-Step, end_of-Step, more_of-Step, items-the_row-Step, items_hidden-the_row-Step-0, hidden-the_row-Step-0}
 use Rattle.prem_analysis.proofs.Prelude.{Block', SetLocal as SetLocalTree, SetScalar as SetScalarTree, SetElement as SetElementTree, Output as OutputTree, Input as InputTree, If', For'}
-use Rattle.prem_analysis.proofs.Prelude.{While', Call as CallTree, ◌≡◌, ℕ, ◌+◌, List, [], ◌∷◌, ◌++◌, map, refl, ap, sym, ◌∙◌, append-nil, append_assoc}
+use Rattle.prem_analysis.proofs.Prelude.{While', Call as CallTree, append-nil, append_assoc}
 
 three : (a b c : List ℕ) {d e : List ℕ} → d ≡ a → e ≡ b → d ++ (e ++ c) ≡ (a ++ b) ++ c
 three a b c {d} {e} one two = ap (λ x. x ++ (e ++ c)) one ∙ ap (λ y. a ++ (y ++ c)) two ∙ sym (append_assoc a b c)

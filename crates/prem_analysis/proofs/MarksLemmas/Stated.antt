@@ -1,5 +1,6 @@
 -- The areas that regions state, one by one.
-use Rattle.prem_analysis.proofs.Prelude.{Area, find_named, RegionText, GlobalVariable, global_of, region_of, Global, Region, ◌≡◌, List, ◌∷◌, ◌++◌, map, ap, ◌∙◌, flat_map, append_assoc, Bor}
+use Rattle.std.proofs.Common.{◌≡◌, List, ◌∷◌, ◌++◌, map, ap, ◌∙◌, flat_map}
+use Rattle.prem_analysis.proofs.Prelude.{Area, find_named, RegionText, GlobalVariable, global_of, region_of, Global, Region, append_assoc, Bor}
 use Rattle.prem_ranges.specs.Regions.{area_of}
 
 -- the area of a region among globals

@@ -1,8 +1,9 @@
 -- The marked functions in memory are those that watch over each function.
+use Rattle.std.proofs.Common.{◌≡◌, ℕ, zero, suc, ◌+◌, ◌<◌, ◌≤◌, Bool, true, false, cond, List, [], ◌∷◌, ◌++◌, length, map, drop, get_or, refl, ap, sym, ◌∙◌, arith, Option, Some, None}
+use Rattle.std.proofs.Common.{Result, Ok, Err, IfOk}
 use Rattle.prem_analysis.proofs.Prelude.{called, Entry, entry_of, entry, entry_if, entries_from, watch_of, watch_where, watches_at, AreWatched, Marked, items_of, Watch, watch_if}
 use Rattle.prem_analysis.proofs.Prelude.{watches_from, is_in, reach_set, callee_table, unlimited, MarkText, GlobalVariable, global_of, mark_of, Global, loops_of, routines_of, resolved_of}
-use Rattle.prem_analysis.proofs.Prelude.{Routine as RoutineTree, ◌≡◌, ℕ, zero, suc, ◌+◌, ◌<◌, ◌≤◌, Bool, true, false, cond, List, [], ◌∷◌, ◌++◌, length, map, drop, get_or, refl, ap, sym}
-use Rattle.prem_analysis.proofs.Prelude.{◌∙◌, arith, Option, Some, None, Result, Ok, Err, IfOk, append_assoc, Bor, option_map}
+use Rattle.prem_analysis.proofs.Prelude.{Routine as RoutineTree, append_assoc, Bor, option_map}
 use Rattle.prem_analysis.proofs.MarksLemmas.CalledTrees.{tables_same}
 use Rattle.prem_syntax.specs.Resolved.{Routine}
 use Rattle.prem_tree.specs.declared.resolve.resolved.Resolved.{Resolved as ResolvedTree}

@@ -1,5 +1,7 @@
 -- What the table of ranges gives lies in one of both kinds.
-use Rattle.prem_analysis.proofs.Prelude.{Span, IsRange, Kind, Int, Unsigned, ◌≡◌, arith, subst, sym, ints, pos, negsuc, ◌≤ℤ◌}
+use Rattle.std.proofs.Common.{◌≡◌, arith, subst, sym}
+use Rattle.std.specs.Prelude.{pos, negsuc, ◌≤ℤ◌}
+use Rattle.prem_analysis.proofs.Prelude.{Span, IsRange, Kind, Int, Unsigned, ints}
 
 -- the least and the greatest number of both kinds
 least_of_kind : (k : Kind) (r : Span) → IsRange k r → negsuc 2147483647 ≤ℤ r.lo

@@ -1,6 +1,7 @@
 -- Locals of a vector are those of the environment that it stands for.
-use Rattle.prem_analysis.proofs.Prelude.{span_of, known_of, env_of, Known as KnownTree, any_of, range_at, at_local, known_at, Span, from_to, whole, within, encloses, Int, ◌≡◌, Bool, true}
-use Rattle.prem_analysis.proofs.Prelude.{false, cond, ℕ, zero, suc, ◌<◌, ◌≤◌, List, [], ◌∷◌, length, get_or, set, refl, ap, ◌∙◌, arith, sym, and_parts, ints, ℤ, pos, negsuc, ◌≤ℤ◌, int_le}
+use Rattle.std.proofs.Common.{◌≡◌, Bool, true, false, cond, ℕ, zero, suc, ◌<◌, ◌≤◌, List, [], ◌∷◌, length, get_or, set, refl, ap, ◌∙◌, arith, sym}
+use Rattle.std.specs.Prelude.{ℤ, pos, negsuc, ◌≤ℤ◌, int_le}
+use Rattle.prem_analysis.proofs.Prelude.{span_of, known_of, env_of, Known as KnownTree, any_of, range_at, at_local, known_at, Span, from_to, whole, within, encloses, Int, and_parts, ints}
 use Rattle.prem_ranges.specs.Environment.{Known}
 
 pub range_at_within : (ls : List KnownTree) (k : ℕ) (x : KnownTree) → k < length ls → span_of (get_or ls k x).range ≡ range_at (env_of ls) k

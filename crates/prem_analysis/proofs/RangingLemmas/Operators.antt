@@ -1,6 +1,7 @@
 -- The first breach of an operator is that of its parts.
+use Rattle.std.proofs.Common.{◌≡◌, Bool, true, false, ◌++◌, refl, ap, ◌∙◌, None, Some}
 use Rattle.prem_analysis.proofs.Prelude.{first_of_append, Environment, Site, in_divisor, in_term, range_of, refined, first, first_of, Term, operator, Place, truths, converted, range_of_op}
-use Rattle.prem_analysis.proofs.Prelude.{BinOp, Kind, ◌≡◌, Bool, true, false, ◌++◌, refl, ap, ◌∙◌, None, Some}
+use Rattle.prem_analysis.proofs.Prelude.{BinOp, Kind}
 use Rattle.prem_analysis.specs.Ranging.Shortcut.{shortcut_of}
 use Rattle.prem_word.specs.declared.kind.BinOp.TheVariants.{AndAlso as AndAlsoOp, OrElse as OrElseOp}
 

@@ -1,8 +1,9 @@
 -- A tree's steps with no turns are its steps with any turns, but for these.
+use Rattle.std.proofs.Common.{ℕ, ◌+◌}
 use Rattle.prem_analysis.proofs.Prelude.{plain_before, plain_row, items_of, Alike, alike_done, alike_local, alike_scalar, alike_element, alike_output, alike_input, alike_if, alike_for}
 use Rattle.prem_analysis.proofs.Prelude.{alike_while, alike_call, Steps, term_of, loops_of, step_before, row_before, Step, Row_of-Step, end_of-Step, more_of-Step, Block'}
 use Rattle.prem_analysis.proofs.Prelude.{SetLocal as SetLocalTree, SetScalar as SetScalarTree, SetElement as SetElementTree, Output as OutputTree, Input as InputTree, If', For', While'}
-use Rattle.prem_analysis.proofs.Prelude.{Call as CallTree, ℕ, ◌+◌}
+use Rattle.prem_analysis.proofs.Prelude.{Call as CallTree}
 use Rattle.std.specs.Prelude.{map}
 
 mutual

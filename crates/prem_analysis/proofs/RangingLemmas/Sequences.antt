@@ -1,9 +1,9 @@
 -- Steps in memory, one behind the other.
+use Rattle.std.proofs.Common.{◌≡◌, ℕ, zero, suc, ◌+◌, ◌<◌, Bool, true, false, cond, eqb, ◌||◌, List, [], ◌∷◌, ◌++◌, length, get_or, drop, refl, ap, sym, ◌∙◌, arith}
 use Rattle.prem_analysis.proofs.Prelude.{plain_before, plain_row, plain, plain_list, targets, row_targets, list_targets, items_of, Sequence, first_of_append, suc_suc, assigns, after, bounds}
 use Rattle.prem_analysis.proofs.Prelude.{Environment, any_again, at_local, loosened, Site, in_steps, first, first_of, Steps, Done, Step, Block, Row_of-Step, end_of-Step, more_of-Step}
 use Rattle.prem_analysis.proofs.Prelude.{items-the_row-Step, items_hidden-the_row-Step-0, hidden-the_row-Step-0, Block', SetLocal as SetLocalTree, SetScalar as SetScalarTree}
-use Rattle.prem_analysis.proofs.Prelude.{SetElement as SetElementTree, Output as OutputTree, Input as InputTree, If', For', While', Call as CallTree, ◌≡◌, ℕ, zero, suc, ◌+◌, ◌<◌, Bool, true}
-use Rattle.prem_analysis.proofs.Prelude.{false, cond, eqb, ◌||◌, List, [], ◌∷◌, ◌++◌, length, get_or, drop, refl, ap, sym, ◌∙◌, arith, nat_tests, drop_more}
+use Rattle.prem_analysis.proofs.Prelude.{SetElement as SetElementTree, Output as OutputTree, Input as InputTree, If', For', While', Call as CallTree, nat_tests, drop_more}
 use Rattle.prem_ranges.proofs.Followed.{after-followed, bounds-followed, in_steps-followed, assigns-followed}
 use Rattle.prem_ranges.specs.Environment.{Known}
 use Rattle.prem_ranges.specs.Sequence.{followed}

@@ -1,8 +1,8 @@
 -- The locals that a tree in memory assigns are those that its steps assign.
+use Rattle.std.proofs.Common.{◌≡◌, ℕ, Bool, true, false, eqb, ◌||◌, refl, ap, sym, ◌∙◌, Option, None, Some}
 use Rattle.prem_analysis.proofs.Prelude.{plain_before, plain_row, plain, target_of, targets, row_targets, HasAssigned, among, among-append, assigns, is_target, Steps, Done, Step}
 use Rattle.prem_analysis.proofs.Prelude.{Row_of-Step, end_of-Step, more_of-Step, Block', SetLocal as SetLocalTree, SetScalar as SetScalarTree, SetElement as SetElementTree}
-use Rattle.prem_analysis.proofs.Prelude.{Output as OutputTree, Input as InputTree, If', For', While', Call as CallTree, ◌≡◌, ℕ, Bool, true, false, eqb, ◌||◌, refl, ap, sym, ◌∙◌, Option}
-use Rattle.prem_analysis.proofs.Prelude.{None, Some}
+use Rattle.prem_analysis.proofs.Prelude.{Output as OutputTree, Input as InputTree, If', For', While', Call as CallTree}
 use Rattle.prem_analysis.proofs.RangingLemmas.Sequences.{or_end}
 
 or_grouped : (a b c : Bool) → (a || (b || c)) ≡ ((a || b) || c)

@@ -1,5 +1,6 @@
 -- The functions that a tree in memory calls.
-use Rattle.prem_analysis.specs.Prelude.{Step, Row_of-Step, end_of-Step, more_of-Step, Block', SetLocal, SetScalar, SetElement, Output, Input, If', For', While', Call, ℕ, List, [], ◌∷◌, ◌++◌}
+use Rattle.std.specs.Prelude.{ℕ, List, [], ◌∷◌, ◌++◌}
+use Rattle.prem_analysis.specs.Prelude.{Step, Row_of-Step, end_of-Step, more_of-Step, Block', SetLocal, SetScalar, SetElement, Output, Input, If', For', While', Call}
 
 abbrev mutual
   pub called : Step → List ℕ

@@ -1,5 +1,6 @@
 -- The marked functions of a program, each with its areas and with what it reaches.
-use Rattle.prem_analysis.specs.Prelude.{Watch, areas_of, reach_set, Routine, MarkText, GlobalVariable, ℕ, ◌+◌, Bool, List, [], ◌∷◌, ◌++◌, Option, None, Some}
+use Rattle.std.specs.Prelude.{ℕ, ◌+◌, Bool, List, [], ◌∷◌, ◌++◌, Option, None, Some}
+use Rattle.prem_analysis.specs.Prelude.{Watch, areas_of, reach_set, Routine, MarkText, GlobalVariable}
 use Rattle.prem_analysis.specs.Ranging.SiteOf.{watch_of}
 use Rattle.prem_analysis.specs.declared.ranging.site.Marked.{Marked}
 

@@ -1,7 +1,7 @@
 -- The steps that a tree in memory stands for, with no turns.
+use Rattle.std.specs.Prelude.{List, [], ◌∷◌, map}
 use Rattle.prem_analysis.specs.Prelude.{items_of, Steps, Done, If, For, While, term_of, Step, Row_of-Step, end_of-Step, more_of-Step, Block', SetLocal as SetLocalTree}
-use Rattle.prem_analysis.specs.Prelude.{SetScalar as SetScalarTree, SetElement as SetElementTree, Output as OutputTree, Input as InputTree, If', For', While', Call as CallTree, List, []}
-use Rattle.prem_analysis.specs.Prelude.{◌∷◌, map}
+use Rattle.prem_analysis.specs.Prelude.{SetScalar as SetScalarTree, SetElement as SetElementTree, Output as OutputTree, Input as InputTree, If', For', While', Call as CallTree}
 use Rattle.prem_syntax.specs.Resolved.{SetLocal, SetScalar, SetElement, Output, Input, Call}
 
 abbrev mutual

@@ -1,6 +1,6 @@
 -- What a function stands among, as it lies in memory.
-use Rattle.prem_analysis.specs.Prelude.{items_of, Site, Area, Watch, watches_of, is_in, unlimited, global_of, routines_of, resolved_of, ◌≡◌, ℕ, ◌<◌, Bool, true, false, List, [], ◌∷◌, length}
-use Rattle.prem_analysis.specs.Prelude.{map}
+use Rattle.std.specs.Prelude.{◌≡◌, ℕ, ◌<◌, Bool, true, false, List, [], ◌∷◌, length, map}
+use Rattle.prem_analysis.specs.Prelude.{items_of, Site, Area, Watch, watches_of, is_in, unlimited, global_of, routines_of, resolved_of}
 use Rattle.prem_analysis.specs.declared.ranging.site.Area.{Area as AreaTree}
 use Rattle.prem_analysis.specs.declared.ranging.site.Marked.{Marked}
 use Rattle.prem_analysis.specs.declared.ranging.site.Site.{Site as SiteTree}

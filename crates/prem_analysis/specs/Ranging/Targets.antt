@@ -1,6 +1,6 @@
 -- The locals that a tree in memory assigns, in the order of the text.
-use Rattle.prem_analysis.specs.Prelude.{Step, Row_of-Step, end_of-Step, more_of-Step, Block', SetLocal, SetScalar, SetElement, Output, Input, If', For', While', Call, ℕ, List, [], ◌∷◌, ◌++◌}
-use Rattle.prem_analysis.specs.Prelude.{Option, None, Some}
+use Rattle.std.specs.Prelude.{ℕ, List, [], ◌∷◌, ◌++◌, Option, None, Some}
+use Rattle.prem_analysis.specs.Prelude.{Step, Row_of-Step, end_of-Step, more_of-Step, Block', SetLocal, SetScalar, SetElement, Output, Input, If', For', While', Call}
 
 abbrev pub target_of : Option ℕ → List ℕ
 target_of None = []

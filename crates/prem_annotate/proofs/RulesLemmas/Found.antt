@@ -1,10 +1,11 @@
 -- The first rule that functions break, found from the last to the first, is the one that is defined.
+use Rattle.std.proofs.Common.{◌≡◌, ℕ, zero, suc, ◌+◌, ◌<◌, ◌≤◌, drop, subst, List, [], ◌∷◌, length, map, get_or, refl, ap, sym, ◌∙◌, arith, Option, None, Some}
+use Rattle.std.specs.Prelude.{slice_get, ◌-◌, Vec}
 use Rattle.prem_annotate.proofs.Prelude.{plain_routine, outlook_of, outlook, outlook_with, row_of, with_arguments, with_slots, empty_row, routine_with, unwatched_site, breaches_among}
-use Rattle.prem_annotate.proofs.Prelude.{first_in, passed, ParameterRange as SlotTree, new_ranges_hold, first_other, with_parameters, ranged_routine, ranged_routines, calls_of_all, items_of, SameSite}
-use Rattle.prem_annotate.proofs.Prelude.{both_same, in_routine-alike, Site, in_routine, RangeBreach, first, first_of, AlikeRoutines, no_routines, next_routine, ProgramHasWords, IsWellFormed}
-use Rattle.prem_annotate.proofs.Prelude.{Routine, unlimited, Parameter, GlobalVariable, ProgramText, IsResolved, resolved_of, Resolved as ResolvedTree, ◌≡◌, ℕ, zero, suc, ◌+◌, ◌<◌, ◌≤◌}
-use Rattle.prem_annotate.proofs.Prelude.{drop, subst, List, [], ◌∷◌, length, map, get_or, refl, ap, sym, ◌∙◌, arith, Option, None, Some, drop_all, length-map, Global, flat_map, slice_get}
-use Rattle.prem_annotate.proofs.Prelude.{◌-◌, Vec}
+use Rattle.prem_annotate.proofs.Prelude.{first_in, passed, ParameterRange as SlotTree, new_ranges_hold, first_other, with_parameters, ranged_routine, ranged_routines, calls_of_all, items_of}
+use Rattle.prem_annotate.proofs.Prelude.{SameSite, both_same, in_routine-alike, Site, in_routine, RangeBreach, first, first_of, AlikeRoutines, no_routines, next_routine, ProgramHasWords}
+use Rattle.prem_annotate.proofs.Prelude.{IsWellFormed, Routine, unlimited, Parameter, GlobalVariable, ProgramText, IsResolved, resolved_of, Resolved as ResolvedTree, drop_all, length-map}
+use Rattle.prem_annotate.proofs.Prelude.{Global, flat_map}
 use Rattle.prem_annotate.proofs.Noted.{plain_routines}
 use Rattle.prem_annotate.proofs.Outlooks.{some_is, looked_before, mapped_drop, mapped_get}
 use Rattle.prem_annotate.proofs.Slots.{slots_in, slots_of, no_rows, row_at, slots_range}

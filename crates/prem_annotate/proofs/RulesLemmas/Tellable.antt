@@ -1,13 +1,13 @@
 -- What is told of breaches where no marked function watches has no names, and a stated range holds a number.
+use Rattle.std.proofs.Common.{◌≡◌, ℕ, ◌+◌, ◌*◌, ◌^◌, Bool, true, false, cond, List, [], ◌∷◌, ◌++◌, map, refl, sym, subst, Option, None, Some}
+use Rattle.std.specs.Prelude.{ℤ, pos, ◌+ℤ◌, ◌-ℤ◌, int_lt, not, nat_lt, slice_get}
 use Rattle.prem_annotate.proofs.Prelude.{unwatched_site, Tellable, TellableIf, new_ranges_hold, first_other, loop_end, turn_bound, in_counting, in_body, behind_loop, in_while, behind_call}
 use Rattle.prem_annotate.proofs.Prelude.{stated_or_whole, known_parameter, known_local, after, at_body, any_again, assigned, Environment, at_local, joined as joined_env, length_of, in_index}
 use Rattle.prem_annotate.proofs.Prelude.{in_element, in_divisor, in_term, in_stated, in_argument, in_arguments, parameters_of, in_turns, in_range_of_int, in_counting_loop, in_steps}
 use Rattle.prem_annotate.proofs.Prelude.{in_locals, in_result, in_routine, range_of, refined, RangeRule, LoopBound, TooLarge, ZeroDivisor, IndexOutside, ArgRange, RangeBreach, comes_before}
 use Rattle.prem_annotate.proofs.Prelude.{first, first_of, if_at, resolved, Ranged, none_ranged, next_ranged, ProgramHasWords, IsWellFormed, promoted, Term, Constant, Scalar, Element, Unary}
 use Rattle.prem_annotate.proofs.Prelude.{Binary, AndAlso, OrElse, Steps, Done, SetLocal, SetScalar, SetElement, Output, Input, If, For, While, Call, Routine, unlimited, Parameter}
-use Rattle.prem_annotate.proofs.Prelude.{LocalVariable, GlobalVariable, ProgramText, Place, Span, from_to, holds, IsRange, encloses, converted, BinOp, Div, Rem, Kind, ◌≡◌, ℕ, ◌+◌, ◌*◌, ◌^◌}
-use Rattle.prem_annotate.proofs.Prelude.{Bool, true, false, cond, List, [], ◌∷◌, ◌++◌, map, refl, sym, subst, Option, None, Some, flat_map, ℤ, pos, ◌+ℤ◌, ◌-ℤ◌, int_lt, not, nat_lt}
-use Rattle.prem_annotate.proofs.Prelude.{slice_get}
+use Rattle.prem_annotate.proofs.Prelude.{LocalVariable, GlobalVariable, ProgramText, Place, Span, from_to, holds, IsRange, encloses, converted, BinOp, Div, Rem, Kind, flat_map}
 use Rattle.prem_annotating.proofs.Lists.{each_append}
 use Rattle.prem_annotating.specs.Annotated.{all_ranged}
 use Rattle.prem_annotating.specs.Lists.{Each}

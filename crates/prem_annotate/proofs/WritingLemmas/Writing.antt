@@ -1,7 +1,7 @@
 -- Texts with notes are texts with annotations.
+use Rattle.std.proofs.Common.{◌≡◌, ◌≤◌, subst, length, ℕ, suc, ◌+◌, List, [], ◌∷◌, ◌++◌, map, refl, sym, ap, ◌∙◌, arith, None, Ok, Err, Result}
 use Rattle.prem_annotate.proofs.Prelude.{Notes, notes, wanted, annotated_text, orders_at, orders_from, texts_of, all_annotated, Wanted, annotations, unplaced_wanted, function_orders}
-use Rattle.prem_annotate.proofs.Prelude.{all_orders, edited_text, text_with, functions_of, FunctionText, ProgramText, ◌≡◌, ◌≤◌, subst, length, ℕ, suc, ◌+◌, List, [], ◌∷◌, ◌++◌, map, refl}
-use Rattle.prem_annotate.proofs.Prelude.{sym, ap, ◌∙◌, arith, None, Ok, Err, Result, length-map}
+use Rattle.prem_annotate.proofs.Prelude.{all_orders, edited_text, text_with, functions_of, FunctionText, ProgramText, length-map}
 use Rattle.prem_annotate.specs.Writing.Laws.{TextsAreEdits, TextsAreRead, TextsStay}
 use Rattle.prem_annotating.proofs.Annotates.{texts_are_there, texts_are_annotated}
 use Rattle.prem_annotating.proofs.EditingLemmas.Unchanged.{stays_where_same}

@@ -1,6 +1,6 @@
 -- What calls give the parameters of all functions.
-use Rattle.prem_annotate.specs.Prelude.{span_of, join_with, if_narrower, stated_or, promoted, Routine, Parameter, Span, converted, option_map, ℕ, zero, suc, List, [], ◌∷◌, map, Option, None}
-use Rattle.prem_annotate.specs.Prelude.{Some, Vec}
+use Rattle.std.specs.Prelude.{ℕ, zero, suc, List, [], ◌∷◌, map, Option, None, Some, Vec}
+use Rattle.prem_annotate.specs.Prelude.{span_of, join_with, if_narrower, stated_or, promoted, Routine, Parameter, Span, converted, option_map}
 use Rattle.prem_annotate.specs.Seeing.Sight.{Argument}
 use Rattle.prem_annotate.specs.declared.ranges.slots.ParameterRange.{ParameterRange as SlotTree}
 use Rattle.prem_word.specs.declared.kind.Kind.{Kind}

@@ -1,5 +1,6 @@
 -- The elements of globals that functions access: for each global the least range around them.
-use Rattle.prem_annotate.specs.Prelude.{span_of, join_with, GlobalAccess, is_in, Span, option_map, ℕ, ◌+◌, Bool, true, false, List, [], ◌∷◌, map, Option, Some}
+use Rattle.std.specs.Prelude.{ℕ, ◌+◌, Bool, true, false, List, [], ◌∷◌, map, Option, Some}
+use Rattle.prem_annotate.specs.Prelude.{span_of, join_with, GlobalAccess, is_in, Span, option_map}
 use Rattle.prem_analysis.specs.declared.ranging.range.Range.{Range}
 use Rattle.prem_annotate.specs.Ranges.Outlook.{Outlook}
 use Rattle.prem_annotate.specs.Ranges.Slots.{at_number}

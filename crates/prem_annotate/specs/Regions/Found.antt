@@ -1,5 +1,6 @@
 -- The regions of a marked function, by what is found of all functions.
-use Rattle.prem_annotate.specs.Prelude.{reach_set, RegionText, GlobalVariable, Place, Span, ℕ, List, [], ◌∷◌, ◌++◌, map, Option, None}
+use Rattle.std.specs.Prelude.{ℕ, List, [], ◌∷◌, ◌++◌, map, Option, None}
+use Rattle.prem_annotate.specs.Prelude.{reach_set, RegionText, GlobalVariable, Place, Span}
 use Rattle.prem_annotate.specs.Ranges.Outlook.{Outlook}
 use Rattle.prem_annotate.specs.Regions.Elements.{with_members}
 use Rattle.prem_annotating.specs.Reached.{region_of}

@@ -1,5 +1,6 @@
 -- The first rule on ranges but for regions that functions with their new ranges break.
-use Rattle.prem_annotate.specs.Prelude.{with_parameters, ranged_routines, Routine, Resolved, GlobalVariable, ℕ, ⊤, ◌≤ℤ◌, List, [], Option, None, Some}
+use Rattle.std.specs.Prelude.{ℕ, ⊤, ◌≤ℤ◌, List, [], Option, None, Some}
+use Rattle.prem_annotate.specs.Prelude.{with_parameters, ranged_routines, Routine, Resolved, GlobalVariable}
 use Rattle.prem_annotate.specs.Ranges.Slots.{ParameterRange, with_slots}
 use Rattle.prem_ranges.specs.RangeBreaches.{Site, in_routine}
 use Rattle.prem_ranges.specs.RangeRules.{RangeRule, RegionOutside, ArgRange, RangeBreach, first_of}

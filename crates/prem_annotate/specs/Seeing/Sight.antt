@@ -1,5 +1,6 @@
 -- What a walk has seen, as it lies in memory: accesses of globals, and arguments of calls.
-use Rattle.prem_annotate.specs.Prelude.{span_of, GlobalAccess, touch, Span, ℕ, List, ◌++◌, map}
+use Rattle.std.specs.Prelude.{ℕ, List, ◌++◌, map}
+use Rattle.prem_annotate.specs.Prelude.{span_of, GlobalAccess, touch, Span}
 use Rattle.prem_annotate.specs.declared.seeing.sight.Argument.{Argument as ArgumentTree}
 use Rattle.prem_annotate.specs.declared.seeing.sight.Sight.{Sight as SightTree}
 use Rattle.prem_annotate.specs.declared.seeing.sight.GlobalAccess.{GlobalAccess as TouchTree}

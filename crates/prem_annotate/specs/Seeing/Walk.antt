@@ -1,5 +1,6 @@
 -- What a walk sees of steps and of functions.
-use Rattle.prem_annotate.specs.Prelude.{GlobalAccess, touched_by_locals, touched_in, touched_by_result, KnownCall, calls_in, Term, Steps, Routine, ℕ, ◌+◌, List, [], ◌∷◌, ◌++◌}
+use Rattle.std.specs.Prelude.{ℕ, ◌+◌, List, [], ◌∷◌, ◌++◌}
+use Rattle.prem_annotate.specs.Prelude.{GlobalAccess, touched_by_locals, touched_in, touched_by_result, KnownCall, calls_in, Term, Steps, Routine}
 use Rattle.prem_annotate.specs.Seeing.Sight.{Argument, argument, Sight}
 use Rattle.prem_ranges.specs.After.{after, declared}
 use Rattle.prem_ranges.specs.Environment.{Environment}

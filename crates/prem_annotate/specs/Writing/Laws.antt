@@ -1,5 +1,6 @@
 -- What a text with notes is.
-use Rattle.prem_annotate.specs.Prelude.{texts_of, all_annotated, annotated, functions_of, ProgramText, ◌≡◌, ℕ, List, map, Ok}
+use Rattle.std.specs.Prelude.{◌≡◌, ℕ, List, map, Ok}
+use Rattle.prem_annotate.specs.Prelude.{texts_of, all_annotated, annotated, functions_of, ProgramText}
 use Rattle.prem_annotate.specs.Notes.{notes, program_notes}
 use Rattle.prem_annotate.specs.Writing.Text.{annotated_text}
 use Rattle.prem_annotating.specs.Phrases.{CanBeSaid, AnnotatedText}

@@ -1,5 +1,6 @@
 -- A program's text in which each function has its notes.
-use Rattle.prem_annotate.specs.Prelude.{FunctionText, ℕ, ◌+◌, List, [], ◌∷◌, ◌++◌, map, slice_get, Option, None, Some}
+use Rattle.std.specs.Prelude.{ℕ, ◌+◌, List, [], ◌∷◌, ◌++◌, map, slice_get, Option, None, Some}
+use Rattle.prem_annotate.specs.Prelude.{FunctionText}
 use Rattle.prem_annotate.specs.Notes.{Notes}
 use Rattle.prem_annotating.specs.Editing.Orders.{Wanted, function_orders, text_with}
 use Rattle.prem_annotating.specs.Editing.Walk.{Order}

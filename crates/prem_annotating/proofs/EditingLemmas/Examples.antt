@@ -1,6 +1,6 @@
 -- Small texts with annotations put in, computed by the checker.
-use Rattle.prem_annotating.proofs.Prelude.{constant_bytes, text_with, RegionText, Place, used_word, is_unused, reserved_word, longest_mark, first_token, lex, tokens_of, ◌≡◌, ℕ, List, []}
-use Rattle.prem_annotating.proofs.Prelude.{◌∷◌, Some, refl, codes, pos, negsuc}
+use Rattle.std.proofs.Common.{◌≡◌, ℕ, List, [], ◌∷◌, Some, refl}
+use Rattle.prem_annotating.proofs.Prelude.{constant_bytes, text_with, RegionText, Place, used_word, is_unused, reserved_word, longest_mark, first_token, lex, tokens_of, codes, pos, negsuc}
 use Rattle.prem_text.specs.Lexing.Literal.{literal_word}
 use Rattle.prem_text.specs.Lexing.Tokens.{start, step}
 use Rattle.std.specs.Fmt.{digits}

@@ -1,10 +1,10 @@
 -- How the walk goes over pieces.
+use Rattle.std.proofs.Common.{not, ◌&&◌, ◌≡◌, ℕ, Bool, true, false, List, [], ◌∷◌, ◌++◌, refl, sym, ap, subst, ◌∙◌, append_assoc, Option, Some}
+use Rattle.std.specs.Prelude.{if◌then◌else◌}
 use Rattle.prem_annotating.proofs.Prelude.{plain, marks_of, Order, Marked, Step, kept, at_token, skipped, first_order, rest_if, walked, mode_of, is_type, is_predictable, type_or, elsewhere}
-use Rattle.prem_annotating.proofs.Prelude.{Piece, between, a_token, text_of, lexemes_in, AreDivided, GapMode, Copying, Dropping, Skipping, TokenPlace, Elsewhere, BehindType, InMark, lexemes_of}
-use Rattle.prem_annotating.proofs.Prelude.{Lexeme, name, number, word, mark, end_of_text, Seen, is_name_byte, goes_on, every, ◌≡◌, ℕ, Bool, true, false, List, [], ◌∷◌, ◌++◌, refl, sym, ap}
-use Rattle.prem_annotating.proofs.Prelude.{subst, ◌∙◌, append_assoc, Option, Some, and_parts, if◌then◌else◌}
+use Rattle.prem_annotating.proofs.Prelude.{Piece, between, a_token, text_of, lexemes_in, AreDivided, GapMode, Copying, Dropping, Skipping, TokenPlace, Elsewhere, BehindType, InMark}
+use Rattle.prem_annotating.proofs.Prelude.{lexemes_of, Lexeme, name, number, word, mark, end_of_text, Seen, is_name_byte, goes_on, every, and_parts}
 use Rattle.prem_annotating.proofs.Pieces.{token_begun}
-use Rattle.std.proofs.Common.{not, ◌&&◌}
 
 -- what a step and the bytes behind it give
 abbrev pub after_step : Step → List Order → List Marked → List ℕ

@@ -1,10 +1,10 @@
 -- Which bytes of a divided text begin its tokens: those at whose places these stand, since no two bytes have the same place.
+use Rattle.std.proofs.Common.{◌==◌, ◌&&◌, if◌then◌else◌, ◌≡◌, ◌<◌, ◌⊎◌, inl, inr, ⊎_elim, ℕ, ◌+◌, Bool, true, false, List, [], ◌∷◌, ◌++◌, refl, sym, ap, subst, ◌∙◌, arith, append_assoc}
+use Rattle.std.proofs.Common.{append-nil, Some, None}
 use Rattle.prem_annotating.proofs.Prelude.{plain, marks_of, placed, Marked, Order, behind, same_place, first_if, tokens_behind, marked, edited, walked, Piece, between, a_token, text_of}
-use Rattle.prem_annotating.proofs.Prelude.{AreDivided, Copying, Elsewhere, Place, Lexeme, end_of_text, Seen, place, place_behind, Divides, up_to, gap, token, ◌≡◌, ◌<◌, ◌⊎◌, inl, inr, ⊎_elim}
-use Rattle.prem_annotating.proofs.Prelude.{ℕ, ◌+◌, Bool, true, false, List, [], ◌∷◌, ◌++◌, refl, sym, ap, subst, ◌∙◌, arith, append_assoc, append-nil, Some, None, nat_tests}
+use Rattle.prem_annotating.proofs.Prelude.{AreDivided, Copying, Elsewhere, Place, Lexeme, end_of_text, Seen, place, place_behind, Divides, up_to, gap, token, nat_tests}
 use Rattle.prem_annotating.proofs.Pieces.{token_begun, pieces_of}
 use Rattle.prem_text.proofs.SpellingLemmas.Steps.{behind_is}
-use Rattle.std.proofs.Common.{◌==◌, ◌&&◌, if◌then◌else◌}
 
 -- ---- no two places are the same
 

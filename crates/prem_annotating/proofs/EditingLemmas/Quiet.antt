@@ -1,13 +1,12 @@
 -- Expressions and statements have no type among their tokens, and no mark of a function.
+use Rattle.std.proofs.Common.{not, ◌&&◌, ◌≡◌, Bool, true, false, List, [], ◌∷◌, ◌++◌, refl}
 use Rattle.prem_annotating.proofs.Prelude.{Phrase, of_literal, of_name, of_element, of_bracket, of_prefix, of_infix, spelled, IsRow, Slot, fits, left_brace, right_brace, right_parenthesis}
 use Rattle.prem_annotating.proofs.Prelude.{semicolon, comma, equal_sign, the_else, StepForm, by_one_step, added_step, summed_step, step_slots, if_head, for_head, for_bound, while_head}
 use Rattle.prem_annotating.proofs.Prelude.{out_head, statement_tail, call_head, call_to_head, input_row, Direction, up, down, change_sign, count_sign, Target, to_name, to_element, Parted}
 use Rattle.prem_annotating.proofs.Prelude.{Arguments, no_arguments, arguments, StatementPhrase, StatementPhrases, of_block, of_if, of_else, of_for, of_while, of_output, of_call, of_input}
 use Rattle.prem_annotating.proofs.Prelude.{of_call_to, of_assign, of_change, of_count, no_phrases, next_phrase, AreParted, AreArguments, IsStatement, AreStatements, parted_tokens}
-use Rattle.prem_annotating.proofs.Prelude.{argument_tokens, target_tokens, written, all_written, Lexeme, name, number, word, mark, end_of_text, Seen, every, Word, ◌≡◌, Bool, true, false}
-use Rattle.prem_annotating.proofs.Prelude.{List, [], ◌∷◌, ◌++◌, refl, and_parts}
+use Rattle.prem_annotating.proofs.Prelude.{argument_tokens, target_tokens, written, all_written, Lexeme, name, number, word, mark, end_of_text, Seen, every, Word, and_parts}
 use Rattle.prem_annotating.proofs.EditingLemmas.Goes.{is_quiet, AreQuiet, quiet_join}
-use Rattle.std.proofs.Common.{not, ◌&&◌}
 use Rattle.prem_text.specs.declared.lexing.token.token.Word.TheVariants as w
 
 -- ---- rows

@@ -1,8 +1,8 @@
 -- The orders of parameters and of regions in memory.
+use Rattle.std.proofs.Common.{ℤ, ◌≡◌, ◌≤◌, ℕ, zero, suc, ◌+◌, Bool, true, false, List, [], ◌∷◌, ◌++◌, length, map, Option, None, Some, refl, ap, ◌∙◌, arith, append_assoc}
+use Rattle.std.specs.Prelude.{◌&&◌}
 use Rattle.prem_annotating.proofs.Prelude.{range_order, range_at, orders_from, range_orders, mark_orders, function_orders, same_region, same_regions, Order, leave, Parameter, FunctionText}
-use Rattle.prem_annotating.proofs.Prelude.{MarkText, RegionText, ◌≡◌, ◌≤◌, ℕ, zero, suc, ◌+◌, Bool, true, false, List, [], ◌∷◌, ◌++◌, length, map, Option, None, Some, refl, ap, ◌∙◌, arith}
-use Rattle.prem_annotating.proofs.Prelude.{append_assoc, ◌&&◌}
-use Rattle.std.proofs.Common.{ℤ}
+use Rattle.prem_annotating.proofs.Prelude.{MarkText, RegionText}
 
 leaves : (r : Option (ℤ × ℤ)) → range_order r None ≡ leave
 leaves None = refl

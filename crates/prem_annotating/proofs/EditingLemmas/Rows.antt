@@ -1,14 +1,15 @@
 -- The walk over rows of tokens that stay: declarations, ranges and marks.
-use Rattle.prem_annotating.proofs.Prelude.{Order, kept, at_token, is_type, type_or, is_predictable, behind_name, in_range, TokenPlace, Elsewhere, BehindType, BehindName, InMark, InParameters}
-use Rattle.prem_annotating.proofs.Prelude.{InRange, Text, lexemes_of, IsRow, spelled, TypeForm, void_type, int_type, short_type, signed_char_type, unsigned_type, unsigned_int_type}
-use Rattle.prem_annotating.proofs.Prelude.{unsigned_short_type, unsigned_char_type, type_slots, Declaration, IsDeclaration, declaration_tokens, ConstantPhrase, constant_slots, IsConstant}
-use Rattle.prem_annotating.proofs.Prelude.{PartedConstant, InitialPhrase, no_initial, one_initial, many_initial, ArePartedConstants, IsInitial, constants_tokens, initial_tokens, IsLength}
-use Rattle.prem_annotating.proofs.Prelude.{length_tokens, GlobalPhrase, IsGlobal, global_tokens, RangePhrase, IsRange, range_tokens, LocalPhrase, AreLocals, local_tokens, ResultPhrase}
-use Rattle.prem_annotating.proofs.Prelude.{IsResult, result_tokens, Slot, fits, left_parenthesis, right_parenthesis, left_brace, right_brace, left_bracket, right_bracket, semicolon, comma}
-use Rattle.prem_annotating.proofs.Prelude.{equal_sign, minus_sign, a_name, a_literal, the_void, the_int, the_short, the_signed, the_char, the_unsigned, the_range, the_return}
-use Rattle.prem_annotating.proofs.Prelude.{is_left_parenthesis, is_right_parenthesis, is_comma, is_name, is_void, is_int, is_short, is_signed, is_char, is_unsigned, Lexeme, name, word, mark}
-use Rattle.prem_annotating.proofs.Prelude.{Seen, every, Word, ◌≡◌, ℕ, Bool, true, false, List, [], ◌∷◌, ◌++◌, refl, sym, ap, subst, ◌∙◌, append_assoc, append-nil, Option, Some, None}
-use Rattle.prem_annotating.proofs.Prelude.{and_parts, if◌then◌else◌}
+use Rattle.std.proofs.Common.{◌≡◌, ℕ, Bool, true, false, List, [], ◌∷◌, ◌++◌, refl, sym, ap, subst, ◌∙◌, append_assoc, append-nil, Option, Some, None}
+use Rattle.std.specs.Prelude.{if◌then◌else◌}
+use Rattle.prem_annotating.proofs.Prelude.{Order, kept, at_token, is_type, type_or, is_predictable, behind_name, in_range, TokenPlace, Elsewhere, BehindType, BehindName, InMark}
+use Rattle.prem_annotating.proofs.Prelude.{InParameters, InRange, Text, lexemes_of, IsRow, spelled, TypeForm, void_type, int_type, short_type, signed_char_type, unsigned_type}
+use Rattle.prem_annotating.proofs.Prelude.{unsigned_int_type, unsigned_short_type, unsigned_char_type, type_slots, Declaration, IsDeclaration, declaration_tokens, ConstantPhrase}
+use Rattle.prem_annotating.proofs.Prelude.{constant_slots, IsConstant, PartedConstant, InitialPhrase, no_initial, one_initial, many_initial, ArePartedConstants, IsInitial, constants_tokens}
+use Rattle.prem_annotating.proofs.Prelude.{initial_tokens, IsLength, length_tokens, GlobalPhrase, IsGlobal, global_tokens, RangePhrase, IsRange, range_tokens, LocalPhrase, AreLocals}
+use Rattle.prem_annotating.proofs.Prelude.{local_tokens, ResultPhrase, IsResult, result_tokens, Slot, fits, left_parenthesis, right_parenthesis, left_brace, right_brace, left_bracket}
+use Rattle.prem_annotating.proofs.Prelude.{right_bracket, semicolon, comma, equal_sign, minus_sign, a_name, a_literal, the_void, the_int, the_short, the_signed, the_char, the_unsigned}
+use Rattle.prem_annotating.proofs.Prelude.{the_range, the_return, is_left_parenthesis, is_right_parenthesis, is_comma, is_name, is_void, is_int, is_short, is_signed, is_char, is_unsigned}
+use Rattle.prem_annotating.proofs.Prelude.{Lexeme, name, word, mark, Seen, every, Word, and_parts}
 use Rattle.prem_annotating.proofs.EditingLemmas.Goes.{Stays, stays_join, AreQuiet, quiet_join, quiet_stays}
 use Rattle.prem_annotating.proofs.EditingLemmas.Quiet.{quiet_slot, row_quiet, phrase_quiet}
 use Rattle.prem_annotating.proofs.Edits.{lexemes_join}

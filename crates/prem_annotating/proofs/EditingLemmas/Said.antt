@@ -1,8 +1,8 @@
 -- What is put in place, spelled out.
+use Rattle.std.proofs.Common.{ℤ, ◌≡◌, ℕ, Bool, true, false, List, [], ◌∷◌, ◌++◌, map, refl, sym, ap, ◌∙◌, append_assoc}
+use Rattle.std.specs.Prelude.{int_lt, pos, unsigned_abs, if◌then◌else◌, codes}
 use Rattle.prem_annotating.proofs.Prelude.{length_bytes, range_bytes, regions_bytes, constant_bytes, range_spelled, region_spelled, regions_spelled, Piece, text_of, said, mark_piece, blank}
-use Rattle.prem_annotating.proofs.Prelude.{constant_pieces, region_pieces, regions_pieces, RegionText, number_lexeme, mark, ◌≡◌, ℕ, Bool, true, false, List, [], ◌∷◌, ◌++◌, map, refl, sym}
-use Rattle.prem_annotating.proofs.Prelude.{ap, ◌∙◌, append_assoc, int_lt, pos, unsigned_abs, if◌then◌else◌, codes}
-use Rattle.std.proofs.Common.{ℤ}
+use Rattle.prem_annotating.proofs.Prelude.{constant_pieces, region_pieces, regions_pieces, RegionText, number_lexeme, mark}
 use Rattle.prem_text.specs.declared.lexing.token.token.Mark.TheVariants as m
 
 constant_before : (z : ℤ) (ps : List Piece) → text_of (constant_pieces z ++ ps) ≡ constant_bytes z ++ text_of ps

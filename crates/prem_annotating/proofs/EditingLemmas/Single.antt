@@ -1,14 +1,14 @@
 -- The walk over single tokens that have an order, and over regions that go.
+use Rattle.std.proofs.Common.{not, ◌≡◌, ◌⊎◌, inl, inr, ⊎_elim, ℕ, zero, suc, Bool, true, false, List, [], ◌∷◌, ◌++◌, length, refl, sym, ap, subst, ◌∙◌, append-nil, Option, Some}
+use Rattle.std.specs.Prelude.{if◌then◌else◌}
 use Rattle.prem_annotating.proofs.Prelude.{plain, marks_of, Order, leave, put, put_for, Marked, Step, step, gone, is_close, at_token, first_order, walked, mode_of, behind_close, Piece}
 use Rattle.prem_annotating.proofs.Prelude.{between, a_token, text_of, lexemes_in, AreDivided, mark_piece, EndsInToken, GapMode, Copying, Dropping, Skipping, TokenPlace, Elsewhere, InMark}
 use Rattle.prem_annotating.proofs.Prelude.{AmongRegions, InParameters, Text, is_number_row, literal_row, lexemes_of, IsRow, AreRegions, region_tokens, region_trees, Slot, fits}
 use Rattle.prem_annotating.proofs.Prelude.{left_parenthesis, right_parenthesis, a_name, comma, a_literal, the_region, Lexeme, name, number, word, mark, end_of_text, Seen, is_digit}
-use Rattle.prem_annotating.proofs.Prelude.{is_name_byte, goes_on, every, Spells, as_name, as_literal, Kind, ◌≡◌, ◌⊎◌, inl, inr, ⊎_elim, ℕ, zero, suc, Bool, true, false, List, [], ◌∷◌, ◌++◌}
-use Rattle.prem_annotating.proofs.Prelude.{length, refl, sym, ap, subst, ◌∙◌, append-nil, Option, Some, and_parts, if◌then◌else◌}
+use Rattle.prem_annotating.proofs.Prelude.{is_name_byte, goes_on, every, Spells, as_name, as_literal, Kind, and_parts}
 use Rattle.prem_annotating.proofs.EditingLemmas.Goes.{after_step, copies, drops, skips, skip_ends, from, Goes}
 use Rattle.prem_annotating.proofs.Edits.{lexemes_join}
 use Rattle.prem_annotating.proofs.Pieces.{token_begun}
-use Rattle.std.proofs.Common.{not}
 use Rattle.prem_text.specs.declared.lexing.token.token.Mark.TheVariants as m
 
 -- ---- a token with an order to leave it

@@ -1,8 +1,9 @@
 -- How a walk in memory goes on.
+use Rattle.std.proofs.Common.{◌≡◌, ◌<◌, ◌≤◌, ℕ, zero, suc, ◌+◌, Bool, true, false, List, [], ◌∷◌, ◌++◌, length, get_or, drop, map, Option, None, Some, refl, sym, ap, ◌∙◌, arith}
+use Rattle.std.proofs.Common.{append_assoc, drop-cons, add-one}
+use Rattle.std.specs.Prelude.{slice_get, ◌==◌, if◌then◌else◌}
 use Rattle.prem_annotating.proofs.Prelude.{order_of, one_if, behind_token, behind_byte, if_begun, by_token, advanced, over, Order, Step, at_token, at_byte, begins, same_place, first_order}
-use Rattle.prem_annotating.proofs.Prelude.{rest_if, first_if, tokens_behind, marked, walked, behind, GapMode, TokenPlace, Place, Seen, seen_of, lexeme_of, ◌≡◌, ◌<◌, ◌≤◌, ℕ, zero, suc, ◌+◌, Bool}
-use Rattle.prem_annotating.proofs.Prelude.{true, false, List, [], ◌∷◌, ◌++◌, length, get_or, drop, map, Option, None, Some, refl, sym, ap, ◌∙◌, arith, append_assoc, drop-cons, add-one}
-use Rattle.prem_annotating.proofs.Prelude.{drop_all, option_map, slice_get, ◌==◌, if◌then◌else◌}
+use Rattle.prem_annotating.proofs.Prelude.{rest_if, first_if, tokens_behind, marked, walked, behind, GapMode, TokenPlace, Place, Seen, seen_of, lexeme_of, drop_all, option_map}
 use Rattle.prem_annotating.specs.declared.editing.walk.Order.{Order as OrderTree}
 use Rattle.prem_annotating.specs.declared.editing.whole.Standing.{Standing}
 use Rattle.prem_text.specs.declared.lexing.token.token.Spotted.{Spotted}

@@ -1,13 +1,13 @@
 -- A text stays where nothing differs.
+use Rattle.std.proofs.Common.{ℤ, ◌≡◌, ℕ, Bool, true, false, List, [], ◌∷◌, ◌++◌, length, map, Option, None, Some, Result, Ok, Err, refl, sym, ap, subst, ◌∙◌, arith}
+use Rattle.std.specs.Prelude.{◌==◌, if◌then◌else◌}
 use Rattle.prem_annotating.proofs.Prelude.{length_bytes, regions_bytes, length_order, regions_order, mark_orders, range_order, range_orders, function_orders, Wanted, annotations}
 use Rattle.prem_annotating.proofs.Prelude.{unplaced_wanted, all_orders, edited_text, text_with, StaysWhereSame, Order, leave, put, put_for, Marked, Step, is_type, is_predictable, is_range}
 use Rattle.prem_annotating.proofs.Prelude.{is_open, is_close, type_or, elsewhere, behind_type, behind_name, in_range, at_literal, at_close, at_name, kept, in_mark, in_parameters, at_token}
 use Rattle.prem_annotating.proofs.Prelude.{first_order, rest_if, walked, begins, tokens_behind, marked, behind, edited, Copying, TokenPlace, Elsewhere, BehindType, BehindName, InMark}
 use Rattle.prem_annotating.proofs.Prelude.{AmongRegions, InParameters, InRange, functions_of, Parameter, RegionText, MarkText, FunctionText, ProgramText, Place, text_read, unplaced_region}
-use Rattle.prem_annotating.proofs.Prelude.{unplaced_mark, Lexeme, name, number, word, mark, end_of_text, Seen, tokens_of, reads, FrontFail, Word, ◌≡◌, ℕ, Bool, true, false, List, [], ◌∷◌}
-use Rattle.prem_annotating.proofs.Prelude.{◌++◌, length, map, Option, None, Some, Result, Ok, Err, refl, sym, ap, subst, ◌∙◌, arith, nat_tests, option_map, ◌==◌, if◌then◌else◌}
+use Rattle.prem_annotating.proofs.Prelude.{unplaced_mark, Lexeme, name, number, word, mark, end_of_text, Seen, tokens_of, reads, FrontFail, Word, nat_tests, option_map}
 use Rattle.prem_annotating.proofs.There.{same_regions_yes}
-use Rattle.std.proofs.Common.{ℤ}
 
 -- ---- one step
 

@@ -1,5 +1,6 @@
 -- The bytes of pieces, with the tokens that begin with them.
-use Rattle.prem_annotating.specs.Prelude.{Lexeme, end_of_text, Seen, place_behind, ℕ, List, [], ◌∷◌, ◌++◌, map, None, Some}
+use Rattle.std.specs.Prelude.{ℕ, List, [], ◌∷◌, ◌++◌, map, None, Some}
+use Rattle.prem_annotating.specs.Prelude.{Lexeme, end_of_text, Seen, place_behind}
 use Rattle.prem_annotating.specs.Editing.Walk.{Marked}
 use Rattle.prem_annotating.specs.Pieces.{Piece, between, a_token}
 

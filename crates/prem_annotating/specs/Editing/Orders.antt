@@ -1,7 +1,8 @@
 -- What differs between a program's annotations and those that are wanted, as orders.
+use Rattle.std.specs.Prelude.{ℕ, ◌+◌, ℤ, slice_index_or, pos, int_lt, unsigned_abs, codes, ◌==◌, Bool, true, false, ◌&&◌, if◌then◌else◌, List, [], ◌∷◌, ◌++◌, length, map, Option, None, Some}
+use Rattle.std.specs.Prelude.{Ok, Err, ◌≡◌}
 use Rattle.prem_annotating.specs.Prelude.{functions_of, Parameter, RegionText, MarkText, FunctionText, ProgramText, number_lexeme, lexeme_bytes, unplaced_mark, tokens_of, reads}
-use Rattle.prem_annotating.specs.Prelude.{IsProgramText, option_map, ℕ, ◌+◌, ℤ, slice_index_or, pos, int_lt, unsigned_abs, codes, ◌==◌, Bool, true, false, ◌&&◌, if◌then◌else◌, List, [], ◌∷◌}
-use Rattle.prem_annotating.specs.Prelude.{◌++◌, length, map, Option, None, Some, Ok, Err, ◌≡◌}
+use Rattle.prem_annotating.specs.Prelude.{IsProgramText, option_map}
 use Rattle.prem_annotating.specs.Editing.Walk.{Order, leave, put, put_for, edited}
 use Rattle.prem_annotating.specs.Pieces.{text_of, range_pieces, regions_pieces}
 use Rattle.prem_annotating.specs.declared.editing.walk.Order.{Order as OrderTree}

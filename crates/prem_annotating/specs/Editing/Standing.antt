@@ -1,5 +1,6 @@
 -- A walk in memory, which goes by the numbers of the next token and the next order.
-use Rattle.prem_annotating.specs.Prelude.{Place, lexeme_of, option_map, ℕ, ◌+◌, Bool, true, false, List, [], ◌∷◌, ◌++◌, slice_get, Option, None, Some}
+use Rattle.std.specs.Prelude.{ℕ, ◌+◌, Bool, true, false, List, [], ◌∷◌, ◌++◌, slice_get, Option, None, Some}
+use Rattle.prem_annotating.specs.Prelude.{Place, lexeme_of, option_map}
 use Rattle.prem_annotating.specs.Editing.Orders.{order_of}
 use Rattle.prem_annotating.specs.Editing.Walk.{Step, at_token, at_byte, same_place, behind}
 use Rattle.prem_annotating.specs.declared.editing.walk.GapMode.{GapMode}

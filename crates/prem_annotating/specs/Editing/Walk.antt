@@ -1,6 +1,6 @@
 -- A walk over the bytes of a text, some of which begin its tokens, that puts annotations in their places.
-use Rattle.prem_annotating.specs.Prelude.{Text, Place, Lexeme, name, number, word, mark, Seen, is_name_byte, Mark, ℕ, zero, suc, ◌+◌, ◌==◌, Bool, true, false, ◌&&◌, if◌then◌else◌, List, []}
-use Rattle.prem_annotating.specs.Prelude.{◌∷◌, ◌++◌, drop, Option, None, Some}
+use Rattle.std.specs.Prelude.{ℕ, zero, suc, ◌+◌, ◌==◌, Bool, true, false, ◌&&◌, if◌then◌else◌, List, [], ◌∷◌, ◌++◌, drop, Option, None, Some}
+use Rattle.prem_annotating.specs.Prelude.{Text, Place, Lexeme, name, number, word, mark, Seen, is_name_byte, Mark}
 use Rattle.prem_annotating.specs.declared.editing.walk.Behind.{Behind}
 use Rattle.prem_annotating.specs.declared.editing.walk.GapMode.{GapMode}
 use Rattle.prem_annotating.specs.declared.editing.walk.GapMode.TheVariants.{Copying, Dropping, Skipping}

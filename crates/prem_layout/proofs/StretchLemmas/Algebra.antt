@@ -1,5 +1,6 @@
 -- How sums go together.
-use Rattle.prem_layout.proofs.Prelude.{most, both, or_none, Sums, taking, cut, no_sums, among, chained, greatest, ◌≡◌, ℕ, suc, ◌+◌, max, refl, ap, ◌∙◌, sym, arith, Some, None, Option}
+use Rattle.std.proofs.Common.{◌≡◌, ℕ, suc, ◌+◌, max, refl, ap, ◌∙◌, sym, arith, Some, None, Option}
+use Rattle.prem_layout.proofs.Prelude.{most, both, or_none, Sums, taking, cut, no_sums, among, chained, greatest}
 
 -- ---- sums that may not be there, as numbers: one more than the sum, or 0
 

@@ -1,9 +1,9 @@
 -- The four sums of pieces are those of their paths.
+use Rattle.std.proofs.Common.{◌≡◌, ℕ, zero, suc, ◌+◌, ◌-◌, ◌*◌, max, refl, ap, ◌∙◌, sym, arith, cond, ltb, Bool, true, false, List, [], ◌∷◌, ◌++◌, length}
 use Rattle.prem_layout.proofs.Prelude.{Pieces, no_pieces, straight, address_of, either, repeat, call_to, weight, jump_weight, address_weight, skip_words, branch_of, Instr, CodeTable}
 use Rattle.prem_layout.proofs.Prelude.{job_weight, start_code, Plan, Takes, Cuts, Path, each_behind, crossed, only, turning, paths_of, part_paths, paths_at, paths_behind, marked_paths}
 use Rattle.prem_layout.proofs.Prelude.{task_paths, longest_from, longest_among, Sums, taking, no_sums, among, chained, greatest, sums_of_event, sums_of_path, sums_of_paths, turned, summed}
-use Rattle.prem_layout.proofs.Prelude.{part_sums, sums_at, sums_behind, marked_sums, job_sums, task_sums, Plant, ◌≡◌, ℕ, zero, suc, ◌+◌, ◌-◌, ◌*◌, max, refl, ap, ◌∙◌, sym, arith, cond, ltb}
-use Rattle.prem_layout.proofs.Prelude.{Bool, true, false, List, [], ◌∷◌, ◌++◌, length}
+use Rattle.prem_layout.proofs.Prelude.{part_sums, sums_at, sums_behind, marked_sums, job_sums, task_sums, Plant}
 use Rattle.prem_layout.proofs.StretchLemmas.Algebra.{among_none, among_assoc, chained_among, among_chained, chained_assoc, taken_none, none_taken, greatest_among, greatest_cut}
 use Rattle.prem_layout.specs.Stretch.Laws.{SumsAreExact}
 

@@ -1,6 +1,6 @@
 -- Sums that are no greater go together to sums that are no greater.
-use Rattle.prem_layout.proofs.Prelude.{Path, longest_from, most, both, or_none, Sums, taking, among, chained, greatest, sums_of_path, IsLess, IsWithin, ◌≡◌, ℕ, ◌≤◌, max, subst, sym, arith}
-use Rattle.prem_layout.proofs.Prelude.{Some, None, Option}
+use Rattle.std.proofs.Common.{◌≡◌, ℕ, ◌≤◌, max, subst, sym, arith, Some, None, Option}
+use Rattle.prem_layout.proofs.Prelude.{Path, longest_from, most, both, or_none, Sums, taking, among, chained, greatest, sums_of_path, IsLess, IsWithin}
 use Rattle.prem_layout.proofs.StretchLemmas.Algebra.{none_taken}
 use Rattle.prem_layout.proofs.StretchLemmas.Exact.{longest_path}
 

@@ -1,5 +1,6 @@
 -- Worked sets: the greatest stretches of their tasks, path by path, and their longest intervals, computed.
-use Rattle.prem_layout.proofs.Prelude.{Coded, Placed, turning, task_paths, stretch_of, longest_of, default_plant as plant, Plant, ◌≡◌, refl, ℕ, List, [], ◌∷◌, map, length, codes}
+use Rattle.std.proofs.Common.{◌≡◌, refl, ℕ, List, [], ◌∷◌, map, length}
+use Rattle.prem_layout.proofs.Prelude.{Coded, Placed, turning, task_paths, stretch_of, longest_of, default_plant as plant, Plant, codes}
 use Rattle.prem_layout.proofs.Rows.{two_tasks}
 use Rattle.prem_layout.proofs.Samples.{m_text, m_turns}
 use Rattle.prem_layout.proofs.Tasks.{coded, placed}

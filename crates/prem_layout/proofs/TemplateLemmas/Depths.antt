@@ -1,6 +1,6 @@
 -- The registers that a term needs.
-use Rattle.prem_layout.proofs.Prelude.{first_of, first_place, too_deep, Term, Constant, Local, Scalar, Element, Unary, Binary, ◌≡◌, ℕ, ◌+◌, ◌<◌, refl, cond, ltb, true, false, Bool, Option}
-use Rattle.prem_layout.proofs.Prelude.{None, Some, ltb-true}
+use Rattle.std.proofs.Common.{◌≡◌, ℕ, ◌+◌, ◌<◌, refl, cond, ltb, true, false, Bool, Option, None, Some}
+use Rattle.prem_layout.proofs.Prelude.{first_of, first_place, too_deep, Term, Constant, Local, Scalar, Element, Unary, Binary, ltb-true}
 use Rattle.prem_syntax.specs.Resolved.{AndAlso, OrElse}
 use Rattle.prem_syntax.specs.declared.tree.Place.{Place}
 

@@ -1,8 +1,9 @@
 -- The instructions of operators have words, whatever stands in their registers.
+use Rattle.std.proofs.Common.{◌≡◌, ℕ, ◌+◌, ◌-◌, ◌*◌, ◌%◌, ◌^◌, ◌<◌, ◌≤◌, arith, cond, ltb, true, false, Bool, List, [], ◌∷◌, ◌++◌, All}
 use Rattle.prem_layout.proofs.Prelude.{Pieces, no_pieces, straight, address_of, either, repeat, call_to, followed, address_code, upper, lower, Fits as InstrFits, Instr, OpImm, Op, Target}
 use Rattle.prem_layout.proofs.Prelude.{Rv32i, Rv32im, Void, Int as IntTy, Unsigned as UnsignedTy, Short, Ushort, Schar, Uchar, Neg, Flip, Not, Add as Plus, Sub as Minus, Mul, Div, Rem, Shl}
-use Rattle.prem_layout.proofs.Prelude.{Shr, Lt, Le, Gt, Ge, Eq, Ne, And as BitAnd, Xor as BitXor, Or as BitOr, AndAlso as AndAlsoOp, OrElse as OrElseOp, ◌≡◌, ℕ, ◌+◌, ◌-◌, ◌*◌, ◌%◌, ◌^◌, ◌<◌}
-use Rattle.prem_layout.proofs.Prelude.{◌≤◌, arith, cond, ltb, true, false, Bool, List, [], ◌∷◌, ◌++◌, All, cond_both, ltb-true, ltb-false, All-nil, All-cons, ℤ, pos, negsuc}
+use Rattle.prem_layout.proofs.Prelude.{Shr, Lt, Le, Gt, Ge, Eq, Ne, And as BitAnd, Xor as BitXor, Or as BitOr, AndAlso as AndAlsoOp, OrElse as OrElseOp, cond_both, ltb-true, ltb-false}
+use Rattle.prem_layout.proofs.Prelude.{All-nil, All-cons, ℤ, pos, negsuc}
 use Rattle.prem_asm.specs.Fit.{TestFits, PiecesFit}
 use Rattle.prem_asm.specs.Quiet.{EachInstr}
 use Rattle.prem_isa.specs.Fields.{InBits}

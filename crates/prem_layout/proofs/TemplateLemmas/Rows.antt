@@ -1,6 +1,7 @@
 -- What isn't compiled, computed; each program stands above its tree in the language's own text.
+use Rattle.std.proofs.Common.{◌≡◌, refl, ℕ, [], ◌∷◌, None, Some}
 use Rattle.prem_layout.proofs.Prelude.{depth, frame, excess, excess_of, at, int, statements, global, function, resolve, Routine, Resolved, Constant, Done as NoSteps, binary, assign, output}
-use Rattle.prem_layout.proofs.Prelude.{absent, no_statements, ProgramText, Void, Int as IntTy, Add, And, ◌≡◌, refl, ℕ, [], ◌∷◌, None, Some, codes, slice_index}
+use Rattle.prem_layout.proofs.Prelude.{absent, no_statements, ProgramText, Void, Int as IntTy, Add, And, codes, slice_index}
 use Rattle.prem_word.specs.declared.kind.Kind.TheVariants.{Int}
 use Rattle.std.specs.Prelude.{replicate}
 

@@ -1,5 +1,6 @@
 -- What the laws of this crate say.
-use Rattle.prem_layout.specs.Prelude.{Plant, ◌≡◌, List}
+use Rattle.std.specs.Prelude.{◌≡◌, List}
+use Rattle.prem_layout.specs.Prelude.{Plant}
 use Rattle.prem_layout.specs.Bounds.{CodeTable}
 use Rattle.prem_layout.specs.Plans.{Plan}
 use Rattle.prem_layout.specs.Stretch.Paths.{stretch_of}

@@ -1,6 +1,6 @@
 -- Four sums that tell the greatest stretches of paths, and how they go together.
+use Rattle.std.specs.Prelude.{ℕ, zero, suc, ◌+◌, ◌-◌, ◌*◌, ◌≤◌, nat_lt, max, if◌then◌else◌, List, [], ◌∷◌, ◌++◌, length, slice_index_or, Option, Some, None, pos}
 use Rattle.prem_layout.specs.Prelude.{Pieces, no_pieces, straight, address_of, either, repeat, call_to, weight, jump_weight, address_weight, skip_words, branch_of, Instr, Jalr, PmMem, Plant}
-use Rattle.prem_layout.specs.Prelude.{ℕ, zero, suc, ◌+◌, ◌-◌, ◌*◌, ◌≤◌, nat_lt, max, if◌then◌else◌, List, [], ◌∷◌, ◌++◌, length, slice_index_or, Option, Some, None, pos}
 use Rattle.prem_layout.specs.Bounds.{CodeTable, start_code, job_weight}
 use Rattle.prem_layout.specs.Plans.{Plan}
 use Rattle.prem_layout.specs.Stretch.Paths.{Event, Takes, Cuts, Path}

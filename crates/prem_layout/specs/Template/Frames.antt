@@ -1,6 +1,6 @@
 -- Frames of functions, and the stack.
-use Rattle.prem_layout.specs.Prelude.{Steps, Done, SetLocal, SetScalar, SetElement, Output, Input, If, For, While, Call, Routine, Resolved, is_marked, next_multiple_of, ℕ, zero, suc, ◌+◌}
-use Rattle.prem_layout.specs.Prelude.{◌*◌, ◌==◌, max, List, [], ◌∷◌, length, slice_get, Option, None, Some, if◌then◌else◌}
+use Rattle.std.specs.Prelude.{ℕ, zero, suc, ◌+◌, ◌*◌, ◌==◌, max, List, [], ◌∷◌, length, slice_get, Option, None, Some, if◌then◌else◌}
+use Rattle.prem_layout.specs.Prelude.{Steps, Done, SetLocal, SetScalar, SetElement, Output, Input, If, For, While, Call, Routine, Resolved, is_marked, next_multiple_of}
 
 -- ---- the frame of a function
 

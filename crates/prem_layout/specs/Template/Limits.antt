@@ -1,6 +1,7 @@
 -- What keeps a program from being compiled: an expression that needs too many registers, or a frame that is too big.
+use Rattle.std.specs.Prelude.{ℕ, ◌+◌, nat_lt, List, [], ◌∷◌, Option, None, Some, if◌then◌else◌}
 use Rattle.prem_layout.specs.Prelude.{Term, Constant, Local, Scalar, Element, Unary, Binary, AndAlso, OrElse, Steps, Done, SetLocal, SetScalar, SetElement, Output, Input, If, For, While}
-use Rattle.prem_layout.specs.Prelude.{Call, Routine, Resolved, ℕ, ◌+◌, nat_lt, List, [], ◌∷◌, Option, None, Some, if◌then◌else◌}
+use Rattle.prem_layout.specs.Prelude.{Call, Routine, Resolved}
 use Rattle.prem_layout.specs.Template.Frames.{frame_of}
 use Rattle.prem_syntax.specs.declared.tree.Place.{Place}
 

@@ -1,6 +1,7 @@
 -- The numbers of a task's parts among themselves: the start, the code of each function, the stub of each marked one, the
 -- globals, the stack; and the code of its functions.
-use Rattle.prem_layout.specs.Prelude.{Pieces, Target, Routine, is_marked, ℕ, zero, suc, ◌+◌, Bool, false, if◌then◌else◌, List, [], ◌∷◌, length, slice_get, unwrap_or, option_map}
+use Rattle.std.specs.Prelude.{ℕ, zero, suc, ◌+◌, Bool, false, if◌then◌else◌, List, [], ◌∷◌, length, slice_get, unwrap_or, option_map}
+use Rattle.prem_layout.specs.Prelude.{Pieces, Target, Routine, is_marked}
 use Rattle.prem_layout.specs.Template.Frames.{frame_at}
 use Rattle.prem_layout.specs.Template.Steps.{Parts, function_code}
 

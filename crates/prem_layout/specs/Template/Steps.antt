@@ -1,7 +1,7 @@
 -- The code of statements and functions.
+use Rattle.std.specs.Prelude.{ℕ, ℤ, pos, negsuc, ◌+◌, ◌-◌, ◌*◌, Bool, true, false, List, [], ◌∷◌, length, Option, None, Some}
 use Rattle.prem_layout.specs.Prelude.{Pieces, no_pieces, straight, address_of, either, repeat, call_to, followed, Test, Add, Blt, Bge, Instr, Jalr, Load, Store, OpImm, Op, PmIn, PmOut, Lw}
-use Rattle.prem_layout.specs.Prelude.{Target, Term, Steps, Done as NoSteps, SetLocal, SetScalar, SetElement, Output, Input, If, For, While, Call, Routine, Ty, Short, Ushort, Schar, Uchar, ℕ}
-use Rattle.prem_layout.specs.Prelude.{ℤ, pos, negsuc, ◌+◌, ◌-◌, ◌*◌, Bool, true, false, List, [], ◌∷◌, length, Option, None, Some}
+use Rattle.prem_layout.specs.Prelude.{Target, Term, Steps, Done as NoSteps, SetLocal, SetScalar, SetElement, Output, Input, If, For, While, Call, Routine, Ty, Short, Ushort, Schar, Uchar}
 use Rattle.prem_isa.specs.declared.instr.StoreOp.{StoreOp}
 use Rattle.prem_isa.specs.declared.instr.StoreOp.TheVariants.{Sb, Sh, Sw}
 use Rattle.prem_layout.specs.Template.Frames.{counters_in, locals_of, frame_of}

@@ -1,8 +1,9 @@
 -- The code of expressions: the value of a term comes into a register r, by means of those behind it up to x21, and of
 -- x5 to x7 and x28 to x31.
+use Rattle.std.specs.Prelude.{ℕ, ℤ, pos, negsuc, zero, suc, ◌+◌, ◌-◌, ◌*◌, ◌^◌, ◌||◌, nat_lt, nat_le, Bool, List, [], ◌∷◌, if◌then◌else◌}
 use Rattle.prem_layout.specs.Prelude.{Pieces, no_pieces, straight, address_of, either, repeat, followed, lower, address_code, Test, Add, Sub, Sll, Slt, Sltu, Xor, Srl, Sra, Or, And, Bne}
 use Rattle.prem_layout.specs.Prelude.{Instr, Load, OpImm, Op, MulDiv, Lb, Lh, Lw, Lbu, Lhu, Target, Term, Constant, Local, Scalar, Element, Unary, Binary, AndAlso, OrElse, Ty, Short, Ushort}
-use Rattle.prem_layout.specs.Prelude.{Schar, Uchar, ℕ, ℤ, pos, negsuc, zero, suc, ◌+◌, ◌-◌, ◌*◌, ◌^◌, ◌||◌, nat_lt, nat_le, Bool, List, [], ◌∷◌, if◌then◌else◌}
+use Rattle.prem_layout.specs.Prelude.{Schar, Uchar}
 use Rattle.prem_isa.specs.declared.instr.LoadOp.{LoadOp}
 use Rattle.prem_isa.specs.declared.instr.MulDivOp.{MulDivOp}
 use Rattle.prem_isa.specs.declared.instr.MulDivOp.TheVariants.{Mul as MulWord, Div as DivInt, Divu, Rem as RemInt, Remu}

@@ -1,9 +1,10 @@
 -- Cycles in which two cores don't touch each other.
+use Rattle.std.proofs.Common.{◌≡◌, ◌≢◌, ℕ, ◌+◌, ◌-◌, ◌≤◌, Bool, true, false, cond, List, Option, Some, None, refl, ap, sym, ◌∙◌, subst, arith}
+use Rattle.std.specs.Prelude.{max, ◌&&◌, is_some}
 use Rattle.prem_pair.proofs.Prelude.{want_of, with_now, Setup, MachineState, next_held, next_none, quiet_turn, GatesState, is_held, wants, with_carried, AreQuiet, OnlyGoesOn, bus_run}
 use Rattle.prem_pair.proofs.Prelude.{changes, fits_any, least_cost, transfer_left, with_transfer, CoreWant, No, New, Held, Request, ReplacementRule, AreApart, own_cycle, own_part, OwnCycle}
 use Rattle.prem_pair.proofs.Prelude.{PairState, both_ticked, clashes, ended_in_place, pair_cycle, second_done, stays_with, wanted, asks, empty_window, holder_after, is_first, is_gates}
-use Rattle.prem_pair.proofs.Prelude.{is_second, some_wait, two_want, Holder, Nobody, First, Second, Gates, ◌≡◌, ◌≢◌, ℕ, ◌+◌, ◌-◌, ◌≤◌, Bool, true, false, cond, List, Option, Some, None}
-use Rattle.prem_pair.proofs.Prelude.{refl, ap, sym, ◌∙◌, subst, arith, nat_tests, max, ◌&&◌, is_some}
+use Rattle.prem_pair.proofs.Prelude.{is_second, some_wait, two_want, Holder, Nobody, First, Second, Gates, nat_tests}
 use Rattle.prem_pair.proofs.CyclesLemmas.OneCycle.{IsCalm, SideGoes, calm_cycle, calm_goes, first_side, paired, side, turn_in}
 use Rattle.prem_pair.proofs.CyclesLemmas.Rests.{none_of}
 

@@ -1,6 +1,7 @@
 -- Two cores that don't touch each other, computed.
+use Rattle.std.proofs.Common.{◌≡◌, ℕ, true, false, [], refl, sym, ◌∙◌, arith}
 use Rattle.prem_pair.proofs.Prelude.{marked, want_of, MachineState, rule_in, Mode, Point, Running, CoreWant, No, Held, AreApart, own_cycle, PairState, pair_cycle, pair_cycles, holder_after}
-use Rattle.prem_pair.proofs.Prelude.{Holder, First, ◌≡◌, ℕ, true, false, [], refl, sym, ◌∙◌, arith}
+use Rattle.prem_pair.proofs.Prelude.{Holder, First}
 use Rattle.prem_pair.proofs.CyclesLemmas.Apart.{own_cycles}
 use Rattle.prem_pair.proofs.CyclesLemmas.Rows.{pair, same_set}
 

@@ -1,8 +1,10 @@
 -- A cycle of two cores in which no request arrives, the token stays, and the bus starts and ends nothing.
+use Rattle.std.proofs.Common.{◌≡◌, ◌≢◌, ℕ, Bool, false, cond, List, Option, None, refl, ap, ◌∙◌, All}
+use Rattle.std.specs.Prelude.{◌&&◌, is_some}
 use Rattle.prem_pair.proofs.Prelude.{none_arrives, want_of, Arrivals, next_cycle, Setup, MachineState, GatesState, Turned, bus_turn, is_held, OnlyGoesOn, CoreWant, No, New, Held, Transfer}
 use Rattle.prem_pair.proofs.Prelude.{Request, ReplacementRule, PairState, acted, both_ticked, bus_first, bus_for, clashes, ended_in_place, first_acted, first_done, holder_at, no_arrivals}
 use Rattle.prem_pair.proofs.Prelude.{pair_cycle, pair_cycle_with, second_acted, second_done, wanted, asks, empty_window, given, holder_after, holder_with, is_first, is_second, some_wait}
-use Rattle.prem_pair.proofs.Prelude.{want_with, window_given, Holder, Nobody, First, Second, Gates, ◌≡◌, ◌≢◌, ℕ, Bool, false, cond, List, Option, None, refl, ap, ◌∙◌, All, ◌&&◌, is_some}
+use Rattle.prem_pair.proofs.Prelude.{want_with, window_given, Holder, Nobody, First, Second, Gates}
 
 -- ---- the token
 

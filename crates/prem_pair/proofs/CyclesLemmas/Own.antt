@@ -1,10 +1,10 @@
 -- Two cores whose cycles are their own: the cycles of one may be done before those of the other.
+use Rattle.std.proofs.Common.{◌≡◌, ◌≢◌, ℕ, zero, suc, ◌+◌, ◌-◌, ◌≤◌, Bool, true, false, cond, List, [], Option, Some, None, refl, ap, sym, ◌∙◌, subst, arith, All}
+use Rattle.std.specs.Prelude.{◌&&◌, ◌||◌, not, is_some}
 use Rattle.prem_pair.proofs.Prelude.{CoreTurn, Issues, core_issued, core_turn, is_paid, want_of, is_finished, is_full, joined, next_cycle, with_clash, Within, Setup, Work, Counts}
 use Rattle.prem_pair.proofs.Prelude.{MachineState, Mode, Running, Trap, no_core, is_held, wants, CoreWant, No, Request, Change, Stay, ReplacementRule, unclashed, AreApart, own_cycle}
 use Rattle.prem_pair.proofs.Prelude.{own_part, IsGoing, MayRunApart, OwnCycle, OwnRun, no_cycle, one_more, PairState, both_finished, is_pair_over, no_arrivals, pair_cycles, pair_step}
 use Rattle.prem_pair.proofs.Prelude.{rest_with, side_passed, stays_with, wanted, asks, frees, holder_after, is_first, is_second, some_wait, want_with, Holder, Nobody, First, Second, Gates}
-use Rattle.prem_pair.proofs.Prelude.{◌≡◌, ◌≢◌, ℕ, zero, suc, ◌+◌, ◌-◌, ◌≤◌, Bool, true, false, cond, List, [], Option, Some, None, refl, ap, sym, ◌∙◌, subst, arith, All, ◌&&◌, ◌||◌, not}
-use Rattle.prem_pair.proofs.Prelude.{is_some}
 use Rattle.prem_cycle.specs.Runs.Dull.Issuing.{idle_turn}
 use Rattle.prem_pair.proofs.CyclesLemmas.Apart.{own_cycles}
 use Rattle.prem_pair.proofs.CyclesLemmas.OneCycle.{SideGoes, paired}

@@ -1,6 +1,6 @@
 -- Runs of two cores compose, and a state that stays stays.
-use Rattle.prem_pair.proofs.Prelude.{Setup, Request, ReplacementRule, PairState, is_pair_over, pair_cycle, pair_step, pair_cycles, ◌≡◌, ℕ, zero, suc, ◌+◌, refl, ap, ◌∙◌, arith, cond, true}
-use Rattle.prem_pair.proofs.Prelude.{false, List}
+use Rattle.std.proofs.Common.{◌≡◌, ℕ, zero, suc, ◌+◌, refl, ap, ◌∙◌, arith, cond, true, false, List}
+use Rattle.prem_pair.proofs.Prelude.{Setup, Request, ReplacementRule, PairState, is_pair_over, pair_cycle, pair_step, pair_cycles}
 
 pub pair_cycles-next : (rule other : ReplacementRule) (p q : Setup) (requests : List Request) (n : ℕ) (s : PairState) →
     pair_cycles rule other p q requests (n + 1) s ≡ pair_step rule other p q requests (pair_cycles rule other p q requests n s)

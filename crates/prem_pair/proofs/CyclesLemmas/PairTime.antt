@@ -1,7 +1,9 @@
 -- Until a run of two cores stops, as many cycles have passed as were taken.
+use Rattle.std.proofs.Common.{◌≡◌, ℕ, zero, suc, ◌+◌, refl, ap, ◌∙◌, sym, arith, cond, Bool, true, false, List, ⊎_elim}
+use Rattle.std.specs.Prelude.{is_some, ◌||◌}
 use Rattle.prem_pair.proofs.Prelude.{settle_keeps, Arrivals, arrivals_at, with_now, Setup, MachineState, Turned, Request, ReplacementRule, PairState, both_finished, both_ticked, bus_for}
-use Rattle.prem_pair.proofs.Prelude.{ended_in_place, first_acted, holder_at, is_pair_over, one_full, one_trapped, pair_cycle, pair_cycles, pair_run, pair_step, second_acted, Holder, ◌≡◌, ℕ}
-use Rattle.prem_pair.proofs.Prelude.{zero, suc, ◌+◌, refl, ap, ◌∙◌, sym, arith, cond, Bool, true, false, List, ⊎_elim, cases_Bool, is_some, ◌||◌}
+use Rattle.prem_pair.proofs.Prelude.{ended_in_place, first_acted, holder_at, is_pair_over, one_full, one_trapped, pair_cycle, pair_cycles, pair_run, pair_step, second_acted, Holder}
+use Rattle.prem_pair.proofs.Prelude.{cases_Bool}
 use Rattle.prem_pair.proofs.CyclesLemmas.PairRuns.{pair_step-goes, pair_step-stays}
 
 -- a state that goes on has not trapped

@@ -1,6 +1,7 @@
 -- Two cores that rest, computed.
-use Rattle.prem_pair.proofs.Prelude.{rule_in, Mode, Point, Switching, next_none, PairState, pair_cycles, IsSteadyPair, PairRests, pair_passed, empty_window, Holder, First, TaskJobs, ◌≡◌, ℕ}
-use Rattle.prem_pair.proofs.Prelude.{zero, suc, ◌<◌, ◌≤◌, [], refl, arith, slice_index_or}
+use Rattle.std.proofs.Common.{◌≡◌, ℕ, zero, suc, ◌<◌, ◌≤◌, [], refl, arith}
+use Rattle.prem_pair.proofs.Prelude.{rule_in, Mode, Point, Switching, next_none, PairState, pair_cycles, IsSteadyPair, PairRests, pair_passed, empty_window, Holder, First, TaskJobs}
+use Rattle.prem_pair.proofs.Prelude.{slice_index_or}
 use Rattle.prem_pair.proofs.CyclesLemmas.ApartRows.{behind}
 use Rattle.prem_pair.proofs.CyclesLemmas.Rests.{pair_one_step}
 use Rattle.prem_pair.proofs.CyclesLemmas.Rows.{same_set}

@@ -1,10 +1,11 @@
 -- So many cycles of rest of two cores come to one step.
+use Rattle.std.proofs.Common.{◌≡◌, ◌≢◌, ℕ, zero, suc, ◌+◌, ◌≤◌, Bool, true, false, cond, List, Option, Some, None, refl, ap, sym, ◌∙◌, subst, arith, All}
+use Rattle.std.specs.Prelude.{◌||◌, ◌&&◌, not, is_some, if◌then◌else◌}
 use Rattle.prem_pair.proofs.Prelude.{within_less, state_with, CoreMove, core_turn, want_of, is_finished, joined, next_cycle, with_clash, with_memory, one_if, Within, Setup, CoreState, Log}
 use Rattle.prem_pair.proofs.Prelude.{MachineState, Trap, quiet_free, quiet_gates, quiet_memory, quiet_turn, GatesState, Turned, bus_turn, is_held, wants, OnlyGoesOn, bus_run, changes}
 use Rattle.prem_pair.proofs.Prelude.{CoreWant, Held, Request, ReplacementRule, PairState, clashes, is_pair_over, no_arrivals, one_full, one_trapped, pair_cycle, pair_cycles, pair_step}
 use Rattle.prem_pair.proofs.Prelude.{IsSteadyPair, PairRests, core_passed_with, pair_passed, rest_with, stays_with, turns_passed, wanted, asks, empty_window, frees, holder_after, is_first}
-use Rattle.prem_pair.proofs.Prelude.{is_gates, is_second, some_wait, two_want, want_with, Holder, Nobody, First, Second, Gates, ◌≡◌, ◌≢◌, ℕ, zero, suc, ◌+◌, ◌≤◌, Bool, true, false, cond}
-use Rattle.prem_pair.proofs.Prelude.{List, Option, Some, None, refl, ap, sym, ◌∙◌, subst, arith, All, ◌||◌, ◌&&◌, not, is_some, if◌then◌else◌}
+use Rattle.prem_pair.proofs.Prelude.{is_gates, is_second, some_wait, two_want, want_with, Holder, Nobody, First, Second, Gates}
 use Rattle.prem_pair.proofs.CyclesLemmas.OneCycle.{IsCalm, SideGoes, calm_goes, paired, side, turn_in, turned}
 use Rattle.prem_pair.proofs.CyclesLemmas.PairRuns.{pair_step-goes}
 use Rattle.prem_pair.proofs.CyclesLemmas.Waiting.{asks_kept, finished_kept, frees_kept, rest_move, rest_stays, want_kept, zero_with}

@@ -1,6 +1,7 @@
 -- Two cores, computed: a wrong number anywhere is refused.
+use Rattle.std.proofs.Common.{◌≡◌, ℕ, List, [], ◌∷◌, refl, Option, Some}
 use Rattle.prem_pair.proofs.Prelude.{bytes_in, marked, without_prefetch, alone, device, put, Report, report_of, Setup, Counts, rule_in, DeviceFacts, Transfer, Request, PairState}
-use Rattle.prem_pair.proofs.Prelude.{pair_cycles, pair_run, pair_stop_of, Holder, Nobody, Second, PairStop, Finished, Limit, ◌≡◌, ℕ, List, [], ◌∷◌, refl, Option, Some}
+use Rattle.prem_pair.proofs.Prelude.{pair_cycles, pair_run, pair_stop_of, Holder, Nobody, Second, PairStop, Finished, Limit}
 use Rattle.prem_cycle.proofs.RowsPolicies.{back_and_forth, two_lines}
 use Rattle.prem_cycle.proofs.Told.{task_told, compatible, predictable, counted, carried, gate}
 use Rattle.prem_cycle.specs.declared.facts.EndedInterval.{EndedInterval}

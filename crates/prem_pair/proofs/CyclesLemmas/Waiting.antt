@@ -1,10 +1,11 @@
 -- A core that rests with the token or without it.
+use Rattle.std.proofs.Common.{◌≡◌, ℕ, suc, ◌+◌, ◌≤◌, Bool, true, false, cond, List, Option, Some, None, refl, ap, sym, ◌∙◌, subst, arith, All}
+use Rattle.std.specs.Prelude.{◌||◌, ◌&&◌, nat_lt, ◌==◌, if◌then◌else◌}
 use Rattle.prem_pair.proofs.Prelude.{move_next, passed_by, passed_is, settle_stays, want_passed, move_free, move_wants, not_empty, unpaid, zero_by, finished_none, is_empty, want_of}
 use Rattle.prem_pair.proofs.Prelude.{core_pay, Passes, move_chosen, move_in, move_of, at_point, close_interval, ends_before, is_finish, is_finished, is_finished_in, settle, Within}
 use Rattle.prem_pair.proofs.Prelude.{core_passed, core_rest, mode_passed, mode_rest, Setup, Work, CoreState, MachineState, Mode, Point, Switching, Running, Idle, is_held, wants, CoreWant}
 use Rattle.prem_pair.proofs.Prelude.{No, New, Held, Change, mode_after, core_passed_with, rest_with, waiting_rest, asks, asks_in, frees, frees_in, is_run, move_had, IsReady, choice}
-use Rattle.prem_pair.proofs.Prelude.{first_ready, least_release, rest, run_or, TaskJobs, ◌≡◌, ℕ, suc, ◌+◌, ◌≤◌, Bool, true, false, cond, List, Option, Some, None, refl, ap, sym, ◌∙◌, subst}
-use Rattle.prem_pair.proofs.Prelude.{arith, All, nat_tests, ◌||◌, ◌&&◌, nat_lt, ◌==◌, if◌then◌else◌}
+use Rattle.prem_pair.proofs.Prelude.{first_ready, least_release, rest, run_or, TaskJobs, nat_tests}
 use Rattle.prem_cycle.specs.Runs.Dull.Dull.{with_switch}
 use Rattle.prem_sched.proofs.Choices.{choice_done, first_found, least_none, none_found}
 use Rattle.prem_sched.specs.declared.sched.Choice.TheVariants.{Finished}

@@ -1,10 +1,11 @@
 -- What a cycle of two cores has for each of them: who holds the token has the bus, and no two want it.
+use Rattle.std.proofs.Common.{◌≡◌, ℕ, zero, suc, ◌/◌, ◌<◌, ◌≤◌, refl, ap, ◌∙◌, sym, subst, arith, Some, None, Option, true, false, Bool, List, [], ◌∷◌, length, get_or, IfSome}
+use Rattle.std.specs.Prelude.{All, is_some, ◌&&◌, not}
 use Rattle.prem_pair.proofs.Prelude.{move_cases, AreGates, arrivals_gates, Turns, bus_turns, written_keeps, does, stands_still, MayMoveIn, want_of, CoreMove, Passes, phase_in, Arrivals}
 use Rattle.prem_pair.proofs.Prelude.{arrivals_at, with_memory, move_at, is_finish, is_finished_in, is_finished, IsRequest, IsFree, Setup, MachineState, Mode, Point, Switching, Running, Idle}
 use Rattle.prem_pair.proofs.Prelude.{GateState, Turned, no_gate, wants, bus_turn, Carried, CoreWant, No, Request, IsPlaced, PairState, move_under, holder_at, bus_for, clashes, bus_first}
 use Rattle.prem_pair.proofs.Prelude.{bus_second, is_run, asks_in, asks, some_wait, given, holder_with, is_first, is_second, empty_window, window_got, window_given, want_with, is_gates}
-use Rattle.prem_pair.proofs.Prelude.{two_want, Holder, Nobody, First, Second, Gates, choice, Run, TaskJobs, Meets, needs_in, arrivals_carried, ◌≡◌, ℕ, zero, suc, ◌/◌, ◌<◌, ◌≤◌, refl, ap}
-use Rattle.prem_pair.proofs.Prelude.{◌∙◌, sym, subst, arith, Some, None, Option, true, false, Bool, List, [], ◌∷◌, length, get_or, IfSome, cond_both, is_some, ◌&&◌, not}
+use Rattle.prem_pair.proofs.Prelude.{two_want, Holder, Nobody, First, Second, Gates, choice, Run, TaskJobs, Meets, needs_in, arrivals_carried, cond_both}
 use Rattle.prem_cycle.proofs.RunsLemmas.InputsLemmas.Wants.{and_second}
 use Rattle.prem_cycle.proofs.RunsLemmas.WindowLemmas.Bus.{turn_quiet}
 use Rattle.prem_cycle.specs.Runs.Window.Windows.{LiesInside, CarriesInside, IsQuiet}
@@ -14,7 +15,6 @@ use Rattle.prem_pair.proofs.LawsLemmas.Tokens.{core_needs, first_keeps, second_k
 use Rattle.prem_sched.specs.declared.sched.Choice.{Choice}
 use Rattle.prem_sched.specs.declared.sched.Choice.TheVariants.{Idle as Rest, Finished}
 use Rattle.prem_sound.proofs.ResidentLemmas.Clashes.{turn_serves}
-use Rattle.std.specs.Prelude.{All}
 
 -- ---- small facts
 

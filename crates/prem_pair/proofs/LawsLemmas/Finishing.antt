@@ -1,9 +1,10 @@
 -- Two cores whose tasks keep to their scripts have finished by their limit.
+use Rattle.std.proofs.Common.{◌≡◌, ℕ, zero, suc, ◌+◌, ◌<◌, ◌≤◌, refl, ap, ◌∙◌, arith, true, false, Bool, List, [], ◌∷◌, length, map, get_or, ⊎_elim}
+use Rattle.std.specs.Prelude.{is_some, ◌&&◌, ◌||◌, sum_by}
 use Rattle.prem_pair.proofs.Prelude.{AreGates, is_finished, is_full, no_device, memory_of, Setup, GateState, gate_at, gate_of, gates_of, Request, TaskRun, ReplacementRule, PairState}
 use Rattle.prem_pair.proofs.Prelude.{pair_cycle, both_finished, one_trapped, one_full, is_pair_over, pair_step, pair_cycles, pair_start, pair_run, pair_limit, HasTotals, total_of}
 use Rattle.prem_pair.proofs.Prelude.{PairsFinish, PairsFinishByTotals, OrderRule, start_lasts, start_faultless, start_needs, first_no, start_timed, core_most, core_before, core_room}
-use Rattle.prem_pair.proofs.Prelude.{IsPolicy, Script, last_release, AreScripts, IsRun, ◌≡◌, ℕ, zero, suc, ◌+◌, ◌<◌, ◌≤◌, refl, ap, ◌∙◌, arith, true, false, Bool, List, [], ◌∷◌, length, map}
-use Rattle.prem_pair.proofs.Prelude.{get_or, ⊎_elim, cases_Bool, cond_both, sum_by-cons, is_some, ◌&&◌, ◌||◌, sum_by}
+use Rattle.prem_pair.proofs.Prelude.{IsPolicy, Script, last_release, AreScripts, IsRun, cases_Bool, cond_both, sum_by-cons}
 use Rattle.prem_cycle.proofs.RunsLemmas.PositionLemmas.Runs.{runs_of}
 use Rattle.prem_cycle.proofs.RunsLemmas.PositionLemmas.Starts.{start_all}
 use Rattle.prem_cycle.proofs.RunsLemmas.WindowLemmas.Cycles.{start_closes}

@@ -1,12 +1,13 @@
 -- The transfers of a run take no more cycles than the requests that have been asked.
+use Rattle.std.proofs.Common.{◌≡◌, ℕ, zero, suc, ◌+◌, ◌<◌, ◌≤◌, refl, ap, ◌∙◌, sym, subst, arith, cond, eqb, leb, ltb, Some, None, Option, true, false, Bool, List, [], ◌∷◌, ◌++◌, length}
+use Rattle.std.proofs.Common.{drop, IfSome, ◌⊎◌, inl, inr, get_or, ⊎_elim}
+use Rattle.std.specs.Prelude.{All, slice_set, slice_get, is_some, ◌||◌, ◌&&◌, not, sum_by}
 use Rattle.prem_pair.proofs.Prelude.{is_empty, Arrivals, arrived, arrivals, IsRequest, one_if, device_of, Setup, startable_is, GateState, GatesState, Turned, gate_at, no_gate, with_queue}
 use Rattle.prem_pair.proofs.Prelude.{with_gates, queued, after_arrival, fits, start_of, first_of, startable_from, startable, taken, without_head, ends, goes_on, carries, wants, starts}
-use Rattle.prem_pair.proofs.Prelude.{bus_free, bus_with, bus_turn, IsStart, Carried, CoreWant, No, New, Held, Window, Request, some_wait, longest_transfer, cost_of_request, all_costs, ◌≡◌}
-use Rattle.prem_pair.proofs.Prelude.{ℕ, zero, suc, ◌+◌, ◌<◌, ◌≤◌, refl, ap, ◌∙◌, sym, subst, arith, cond, eqb, leb, ltb, Some, None, Option, true, false, Bool, List, [], ◌∷◌, ◌++◌, length}
-use Rattle.prem_pair.proofs.Prelude.{drop, IfSome, ◌⊎◌, inl, inr, get_or, ⊎_elim, cases_eq, cases_lt, cond_both, leb-false, le-leb, eq-eqb, ne_eqb, lt-ltb, le-ltb, get_or-set_same}
-use Rattle.prem_pair.proofs.Prelude.{get_or-set_other, length-set, All-head, All-tail, sum_by-append, sum_by-cons, sum_by-set, slice_set, slice_get, is_some, ◌||◌, ◌&&◌, not, sum_by}
+use Rattle.prem_pair.proofs.Prelude.{bus_free, bus_with, bus_turn, IsStart, Carried, CoreWant, No, New, Held, Window, Request, some_wait, longest_transfer, cost_of_request, all_costs}
+use Rattle.prem_pair.proofs.Prelude.{cases_eq, cases_lt, cond_both, leb-false, le-leb, eq-eqb, ne_eqb, lt-ltb, le-ltb, get_or-set_same, get_or-set_other, length-set, All-head, All-tail}
+use Rattle.prem_pair.proofs.Prelude.{sum_by-append, sum_by-cons, sum_by-set}
 use Rattle.prem_gate.specs.Gates.{is_full}
-use Rattle.std.specs.Prelude.{All}
 
 -- the bus carries a transfer in a cycle
 abbrev pub transfers : Turned → Bool

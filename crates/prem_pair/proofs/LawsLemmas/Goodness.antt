@@ -1,11 +1,12 @@
 -- Every state of a run of two cores whose tasks keep to their scripts is good.
+use Rattle.std.proofs.Common.{◌≡◌, ℕ, zero, suc, ◌+◌, ◌<◌, refl, ap, ◌∙◌, sym, subst, arith, cond, true, false, Bool, List, [], ◌++◌, length, map}
+use Rattle.std.specs.Prelude.{is_some, ◌==◌, slice_set}
 use Rattle.prem_pair.proofs.Prelude.{settle_keeps, arrivals_gates, bump_move, issuing, CoreMove, Passes, Issues, want_of, core_issue, core_turn, Arrivals, with_memory, with_clash, with_now}
 use Rattle.prem_pair.proofs.Prelude.{next_cycle, ticked, issued_by, task_after, memory_of, Setup, record_of, Work, CoreState, Counts, MachineState, task_in, GatesState, Turned, Transfer}
 use Rattle.prem_pair.proofs.Prelude.{Request, area_of, TaskRun, with_last, ReplacementRule, PairState, pair_cycle, both_finished, one_trapped, one_full, is_pair_over, pair_step, pair_cycles}
 use Rattle.prem_pair.proofs.Prelude.{pair_start, pair_run, window_given, want_with, pair_queued, PairGood, HasTotals, PairsAreGood, OrderRule, TaskJobs, queue_at, held, turn_held}
 use Rattle.prem_pair.proofs.Prelude.{arrivals_queue, arrivals_carried, start_held, first_no, IsPolicy, Script, Promise, AreScripts, AreKept, found_room, asked_of, transferred_of, carried_of}
-use Rattle.prem_pair.proofs.Prelude.{held_of, GetsLastPuts, IsRun, ◌≡◌, ℕ, zero, suc, ◌+◌, ◌<◌, refl, ap, ◌∙◌, sym, subst, arith, cond, true, false, Bool, List, [], ◌++◌, length, map}
-use Rattle.prem_pair.proofs.Prelude.{cond_both, append-nil, append_assoc, filter-append, is_some, ◌==◌, slice_set}
+use Rattle.prem_pair.proofs.Prelude.{held_of, GetsLastPuts, IsRun, cond_both, append-nil, append_assoc, filter-append}
 use Rattle.prem_cycle.proofs.RunsLemmas.PositionLemmas.Schedules.{Moves as Scheduled}
 use Rattle.prem_cycle.proofs.RunsLemmas.PositionLemmas.Stands.{Stands, Issuing}
 use Rattle.prem_pair.proofs.CyclesLemmas.PairRuns.{pair_cycles-next, pair_step-goes}

@@ -1,11 +1,12 @@
 -- Over a run of two cores all that is known of each core holds, and time is spent by a core that works, by a transfer, or before the
 -- last release.
+use Rattle.std.proofs.Common.{◌≡◌, ℕ, ◌+◌, ◌<◌, ◌≤◌, refl, ap, ◌∙◌, sym, subst, arith, cond, Option, true, false, Bool, List, ◌⊎◌, inl, inr, ⊎_elim}
+use Rattle.std.specs.Prelude.{is_some, ◌&&◌, not, max}
 use Rattle.prem_pair.proofs.Prelude.{move_cases, settle_keeps, AreGates, turn_with, bump_move, want_of, CoreMove, Passes, Issues, phase_in, Arrivals, with_memory, move_at, joined, with_now}
 use Rattle.prem_pair.proofs.Prelude.{next_cycle, ticked, is_finished, one_if, MachineState, Mode, Point, Switching, Running, Idle, GatesState, Turned, wants, Carried, Request, PairState}
 use Rattle.prem_pair.proofs.Prelude.{move_under, no_arrivals, both_ticked, second_done, first_done, ended_in_place, pair_cycle, both_finished, asks, some_wait, holder_with, is_first}
 use Rattle.prem_pair.proofs.Prelude.{is_second, is_gates, holder_after, window_given, want_with, Holder, Nobody, First, Second, Gates, Meets, off_after, off_behind, core_off, last_release}
-use Rattle.prem_pair.proofs.Prelude.{◌≡◌, ℕ, ◌+◌, ◌<◌, ◌≤◌, refl, ap, ◌∙◌, sym, subst, arith, cond, Option, true, false, Bool, List, ◌⊎◌, inl, inr, ⊎_elim, cases_Bool, cond_both, is_some}
-use Rattle.prem_pair.proofs.Prelude.{◌&&◌, not, max}
+use Rattle.prem_pair.proofs.Prelude.{cases_Bool, cond_both}
 use Rattle.prem_pair.proofs.LawsLemmas.Facts.{not_true, both_true, quiet_now, finished_asks, finished_needs, HostsDevices, Tokened, arrived_now, holder_now, bus_now, gated_now}
 use Rattle.prem_pair.proofs.LawsLemmas.Facts.{gates_transfer, turned_first, turned_second, move_first, move_second, gates_next, first_meets, second_meets}
 use Rattle.prem_pair.proofs.LawsLemmas.Gating.{transfers, turn_one, Gated, load, asked_before, asked_next, arrivals_load, turn_load, turn_gated}

@@ -1,8 +1,9 @@
 -- A core with its tasks, their bytes and scripts: what is known of it in a state, and that a cycle keeps this, whatever the bus does
 -- that serves it, and however long it is kept waiting at scheduling points.
+use Rattle.std.proofs.Common.{◌≡◌, ℕ, ◌<◌, ◌≤◌, Bool, length}
 use Rattle.prem_pair.proofs.Prelude.{turn_with, Runs, bump_move, CoreMove, phase_in, Arrivals, joined, ticked, Setup, record_of, MachineState, Turned, TaskRun, ReplacementRule, HasTotals}
 use Rattle.prem_pair.proofs.Prelude.{OrderRule, Lasts, core_lasts, KnownCore, Meets, Faces, Comes, faces, comes, core_keeps, core_known, NeedsIn, TurnNeeds, core_turns, ticked_needs}
-use Rattle.prem_pair.proofs.Prelude.{off_behind, Timed, core_timed, IsPolicy, Script, ◌≡◌, ℕ, ◌<◌, ◌≤◌, Bool, length}
+use Rattle.prem_pair.proofs.Prelude.{off_behind, Timed, core_timed, IsPolicy, Script}
 use Rattle.prem_image.specs.declared.image.TaskRecord.{TaskRecord}
 use Rattle.prem_sound.proofs.ResidentLemmas.Keeps.{KeepScripts, Keeps}
 use Rattle.std.specs.Prelude.{All}

@@ -1,6 +1,7 @@
 -- Two images whose tasks have scripts for all input words are sound together.
+use Rattle.std.proofs.Common.{◌≡◌, ℕ, ◌+◌, ◌≤◌, arith, List, []}
 use Rattle.prem_pair.proofs.Prelude.{IsTrace, IsRequest, Setup, Request, last_request, all_costs, due_of, ScriptsFor, GivesScripts, PairsOfImagesAreSound, Promise, last_release, PutWords}
-use Rattle.prem_pair.proofs.Prelude.{IsRun, HasScripts, ◌≡◌, ℕ, ◌+◌, ◌≤◌, arith, List, [], All-nil, max}
+use Rattle.prem_pair.proofs.Prelude.{IsRun, HasScripts, All-nil, max}
 use Rattle.prem_pair.proofs.LawsLemmas.Finishing.{pairs_finish}
 use Rattle.prem_pair.proofs.LawsLemmas.Goodness.{pairs_are_good}
 

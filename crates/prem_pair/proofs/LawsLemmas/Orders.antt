@@ -1,6 +1,7 @@
 -- The requests of a run of two cores that find room are some of those that were asked, in order.
+use Rattle.std.proofs.Common.{◌≡◌, ℕ, zero, suc, ◌+◌, refl, sym, subst, arith, cond, true, false, Bool, List, [], ◌++◌}
 use Rattle.prem_pair.proofs.Prelude.{memory_of, Request, PairState, is_pair_over, pair_cycles, pair_run, pair_start, pair_coming, pair_queued, PairRoomIsFoundInOrder, found_room, AreAmong}
-use Rattle.prem_pair.proofs.Prelude.{asked_before, ◌≡◌, ℕ, zero, suc, ◌+◌, refl, sym, subst, arith, cond, true, false, Bool, List, [], ◌++◌}
+use Rattle.prem_pair.proofs.Prelude.{asked_before}
 use Rattle.prem_pair.proofs.CyclesLemmas.PairTime.{pair_run-now}
 use Rattle.prem_sound.proofs.ServeLemmas.Orders.{among_append, none_among, asked_at, room_among, before_next}
 

@@ -1,10 +1,11 @@
 -- A core holds the token just where it needs the bus.
+use Rattle.std.proofs.Common.{◌≡◌, ℕ, zero, ◌+◌, ◌∙◌, refl, ap, sym, subst, ltb, true, false, Bool, List, ◌⊎◌, inl, inr}
+use Rattle.std.specs.Prelude.{◌&&◌, not, is_some}
 use Rattle.prem_pair.proofs.Prelude.{MoveCase, pays_on_bus, is_denied, pays_cost, waits, switches, begins, chooses, chooses_now, begins_idle, has_finished, idles, Continues, turn_with}
 use Rattle.prem_pair.proofs.Prelude.{is_paid, CoreMove, Passes, Issues, phase_in, CoreTurn, core_turn, Arrivals, with_memory, with_clash, joined, ends_before, at_point, close_interval}
 use Rattle.prem_pair.proofs.Prelude.{settle, with_now, next_cycle, ticked, is_execution, Setup, Work, CoreState, Counts, MachineState, Mode, Point, Switching, Running, Idle, Turned, Change}
 use Rattle.prem_pair.proofs.Prelude.{Stay, Memory, Execute, End, Job, is_run, asks_in, asks, holder_with, is_first, is_second, is_gates, is_execute, frees_in, frees, holder_after, Holder}
-use Rattle.prem_pair.proofs.Prelude.{Nobody, First, Second, Gates, TaskJobs, may_miss, needs_in, IssuesSo, TurnNeeds, ◌≡◌, ℕ, zero, ◌+◌, ◌∙◌, refl, ap, sym, subst, ltb, true, false, Bool}
-use Rattle.prem_pair.proofs.Prelude.{List, ◌⊎◌, inl, inr, cond_both, ◌&&◌, not, is_some}
+use Rattle.prem_pair.proofs.Prelude.{Nobody, First, Second, Gates, TaskJobs, may_miss, needs_in, IssuesSo, TurnNeeds, cond_both}
 use Rattle.prem_cycle.proofs.CoreCases.{goes_on}
 use Rattle.prem_isa.specs.declared.effect.Phase.{Phase}
 use Rattle.prem_isa.specs.declared.effect.Phase.TheVariants.{Compatible, Memory as MemoryPhase, Execution}

@@ -1,5 +1,6 @@
 -- The marked function that is worked out, on both cores: it meets what the laws ask for.
-use Rattle.prem_pair.proofs.Prelude.{bytes_in, marked, to_front, both_finished, pair_run, HasTotals, lru, one_pass, ◌≡◌, ℕ, ◌≤◌, refl, arith, true, [], length}
+use Rattle.std.proofs.Common.{◌≡◌, ℕ, ◌≤◌, refl, arith, true, [], length}
+use Rattle.prem_pair.proofs.Prelude.{bytes_in, marked, to_front, both_finished, pair_run, HasTotals, lru, one_pass}
 use Rattle.prem_pair.proofs.LawsLemmas.Finishing.{pairs_finish, pairs_finish_by_totals}
 use Rattle.prem_sound.proofs.ScopesLemmas.Worked.{script, strand, worked_charged, worked_total}
 use Rattle.prem_sound.proofs.ScriptLemmas.Tests.{below}

@@ -1,6 +1,6 @@
 -- Cycles in which two cores don't touch each other. Time is in cycles.
-use Rattle.prem_pair.specs.Prelude.{want_of, next_cycle, Setup, MachineState, Turned, is_held, wants, New, Request, ReplacementRule, ◌≡◌, ◌≢◌, ◌&&◌, is_some, Bool, true, false, List, None}
-use Rattle.prem_pair.specs.Prelude.{All}
+use Rattle.std.specs.Prelude.{◌≡◌, ◌≢◌, ◌&&◌, is_some, Bool, true, false, List, None, All}
+use Rattle.prem_pair.specs.Prelude.{want_of, next_cycle, Setup, MachineState, Turned, is_held, wants, New, Request, ReplacementRule}
 use Rattle.prem_pair.specs.Cycles.Pair.{PairState, acted, no_arrivals, pair_cycle}
 use Rattle.prem_pair.specs.Cycles.Rest.{stays_with, wanted}
 use Rattle.prem_pair.specs.Cycles.Token.{holder_after, is_first, is_second}

@@ -1,6 +1,6 @@
 -- Runs of a core of which each cycle is its own. Time is in cycles.
-use Rattle.prem_pair.specs.Prelude.{want_of, is_finished, is_full, NoneArrive, Setup, MachineState, Running, wants, CoreWant, New, Request, Stay, ReplacementRule, ◌≡◌, ◌≢◌, ℕ, zero, suc}
-use Rattle.prem_pair.specs.Prelude.{◌+◌, ◌&&◌, is_some, Bool, true, false, List, [], None}
+use Rattle.std.specs.Prelude.{◌≡◌, ◌≢◌, ℕ, zero, suc, ◌+◌, ◌&&◌, is_some, Bool, true, false, List, [], None}
+use Rattle.prem_pair.specs.Prelude.{want_of, is_finished, is_full, NoneArrive, Setup, MachineState, Running, wants, CoreWant, New, Request, Stay, ReplacementRule}
 use Rattle.prem_pair.specs.Cycles.Apart.{own_cycle, own_part}
 use Rattle.prem_pair.specs.Cycles.Pair.{PairState, both_finished}
 use Rattle.prem_pair.specs.Cycles.Rest.{stays_with}

@@ -1,7 +1,7 @@
 -- The machine of two cores: its state, a cycle of it, and its runs. Core 0 has the devices. Time is in cycles.
+use Rattle.std.specs.Prelude.{ℕ, zero, suc, ◌==◌, ◌&&◌, ◌||◌, not, Bool, false, List, Option, Some, None, is_some, if◌then◌else◌}
 use Rattle.prem_pair.specs.Prelude.{want_of, CoreMove, Passes, CoreTurn, core_turn, Arrivals, arrivals_at, with_memory, with_clash, move_at, joined, with_now, next_cycle, is_finished}
-use Rattle.prem_pair.specs.Prelude.{is_full, log_size, memory_of, Setup, MachineState, start_of, GatesState, Turned, wants, bus_turn, Request, ReplacementRule, ℕ, zero, suc, ◌==◌, ◌&&◌}
-use Rattle.prem_pair.specs.Prelude.{◌||◌, not, Bool, false, List, Option, Some, None, is_some, if◌then◌else◌}
+use Rattle.prem_pair.specs.Prelude.{is_full, log_size, memory_of, Setup, MachineState, start_of, GatesState, Turned, wants, bus_turn, Request, ReplacementRule}
 use Rattle.prem_cycle.specs.declared.state.Trap.{Trap}
 use Rattle.prem_pair.specs.Cycles.Token.{asks, some_wait, holder_with, is_first, is_second, window_given, want_with, is_gates, two_want, holder_after}
 use Rattle.prem_pair.specs.declared.cycles.state.Holder.{Holder}

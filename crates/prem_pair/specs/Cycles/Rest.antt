@@ -1,6 +1,7 @@
 -- How long two cores rest, and what so many cycles of rest come to. Time is in cycles.
+use Rattle.std.specs.Prelude.{◌≡◌, ◌≢◌, ℕ, ◌+◌, ◌-◌, ◌≤◌, ◌||◌, not, Bool, true, false, List, Option, Some, None, All, if◌then◌else◌}
 use Rattle.prem_pair.specs.Prelude.{want_of, is_finished, NoneArrive, Within, core_passed, core_rest, Setup, CoreState, MachineState, Mode, Point, Switching, Running, Idle, GatesState}
-use Rattle.prem_pair.specs.Prelude.{wants, CoreWant, Request, ReplacementRule, ◌≡◌, ◌≢◌, ℕ, ◌+◌, ◌-◌, ◌≤◌, ◌||◌, not, Bool, true, false, List, Option, Some, None, All, if◌then◌else◌}
+use Rattle.prem_pair.specs.Prelude.{wants, CoreWant, Request, ReplacementRule}
 use Rattle.prem_gate.specs.Stretch.{AreQuiet, BusRun, bus_run}
 use Rattle.prem_pair.specs.Cycles.Pair.{PairState, clashes, is_pair_over, pair_cycles}
 use Rattle.prem_pair.specs.Cycles.Token.{asks, empty_window, frees, is_first, is_second, some_wait, want_with}

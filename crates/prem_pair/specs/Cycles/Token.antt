@@ -1,6 +1,6 @@
 -- The memory token: who asks for it, who gets it, and when it is free again. Time is in cycles.
-use Rattle.prem_pair.specs.Prelude.{is_empty, CoreState, MachineState, Mode, Point, Switching, Running, Idle, GateState, CoreWant, No, Stay, Memory, Execute, End, Job, TaskJobs, ℕ, ◌+◌}
-use Rattle.prem_pair.specs.Prelude.{◌&&◌, ◌||◌, not, Bool, true, false, List, [], ◌∷◌, if◌then◌else◌}
+use Rattle.std.specs.Prelude.{ℕ, ◌+◌, ◌&&◌, ◌||◌, not, Bool, true, false, List, [], ◌∷◌, if◌then◌else◌}
+use Rattle.prem_pair.specs.Prelude.{is_empty, CoreState, MachineState, Mode, Point, Switching, Running, Idle, GateState, CoreWant, No, Stay, Memory, Execute, End, Job, TaskJobs}
 use Rattle.prem_gate.specs.declared.bus.Window.{Window}
 use Rattle.prem_isa.specs.declared.effect.Change.{Change}
 use Rattle.prem_pair.specs.declared.cycles.state.Holder.{Holder}

@@ -1,6 +1,6 @@
 -- What is good of a run of two cores, and by when it has finished.
-use Rattle.prem_pair.specs.Prelude.{memory_of, Setup, Request, TaskRun, ReplacementRule, ◌≡◌, ℕ, zero, suc, ◌+◌, ◌<◌, ◌≤◌, max, Bool, true, List, [], ◌∷◌, ◌++◌, if◌then◌else◌}
-use Rattle.prem_pair.specs.Prelude.{slice_index_or, sum_by, length}
+use Rattle.std.specs.Prelude.{◌≡◌, ℕ, zero, suc, ◌+◌, ◌<◌, ◌≤◌, max, Bool, true, List, [], ◌∷◌, ◌++◌, if◌then◌else◌, slice_index_or, sum_by, length}
+use Rattle.prem_pair.specs.Prelude.{memory_of, Setup, Request, TaskRun, ReplacementRule}
 use Rattle.prem_cycle.specs.Inputs.{no_device, IsTrace}
 use Rattle.prem_image.specs.Records.{IsImage}
 use Rattle.prem_image.specs.declared.image.DeviceRecord.{DeviceRecord}

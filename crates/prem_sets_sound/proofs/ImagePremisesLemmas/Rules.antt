@@ -1,9 +1,9 @@
 -- The rules that each placed task of a set keeps that breaks none.
+use Rattle.std.proofs.Common.{◌≡◌, ℕ, zero, suc, ◌+◌, refl, ap, sym, subst, List, [], ◌∷◌, drop, Option, None, Some, Ok, slice_get}
 use Rattle.prem_sets_sound.proofs.Prelude.{broken_when_placed, broken_at_places, broken_late, part_count, Coded, Placed, task_places, placed_at, placed_from, or_else, refused_by}
 use Rattle.prem_sets_sound.proofs.Prelude.{first_among, over_tasks, code_rules, memory_rules, reach_rules, conflict_rules, bound_rules, length_rules, log_rules, Extent, Plant, Target}
 use Rattle.prem_sets_sound.proofs.Prelude.{bounded, AcceptedTasksKeepRules, ProgramText, TaskText, text_rules, program_before, programs_of, program_rules, range_rules, coded_one, coded_of}
-use Rattle.prem_sets_sound.proofs.Prelude.{late_refusal, broken_programs, coded_in, places_in, placed_in, reads, ◌≡◌, ℕ, zero, suc, ◌+◌, refl, ap, sym, subst, List, [], ◌∷◌, drop, Option}
-use Rattle.prem_sets_sound.proofs.Prelude.{None, Some, Ok, slice_get, AllByRecursion, option_map}
+use Rattle.prem_sets_sound.proofs.Prelude.{late_refusal, broken_programs, coded_in, places_in, placed_in, reads, AllByRecursion, option_map}
 use Rattle.prem_sets_sound.proofs.ImagePremisesLemmas.Follow.{both_none, not_refused, not_late, read_there}
 use Rattle.prem_syntax.specs.ProgramRules as meaning
 use Rattle.prem_ranges.specs.RangesKept as ranges

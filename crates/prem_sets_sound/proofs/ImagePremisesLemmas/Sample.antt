@@ -1,8 +1,8 @@
 -- A set of two tasks and a device, computed: it breaks no rule, so all but the runs of its tasks is there. The first task has a marked function, and takes an input in each of its jobs.
+use Rattle.std.proofs.Common.{◌≡◌, ℕ, zero, suc, ap, List, [], ◌∷◌, refl, None, arith, length}
 use Rattle.prem_sets_sound.proofs.Prelude.{default_is_plant, IsName, AreDistinct, IsDevice, default_plant, Device, first_range_breach, turn_bounds, HasTextValues, HasValues, IsLaidOut}
 use Rattle.prem_sets_sound.proofs.Prelude.{limits_at, first_breach, TaskText, TaskSet, broken, coded_in, places_in, placed_in, literal_word, reserved_word, used_word, is_unused}
-use Rattle.prem_sets_sound.proofs.Prelude.{longest_mark, tokens_of, lex, step, first_token, ◌≡◌, ℕ, zero, suc, ap, List, [], ◌∷◌, refl, None, arith, length, All-from_recursion}
-use Rattle.prem_sets_sound.proofs.Prelude.{AllByRecursion, codes}
+use Rattle.prem_sets_sound.proofs.Prelude.{longest_mark, tokens_of, lex, step, first_token, All-from_recursion, AllByRecursion, codes}
 use Rattle.prem_sets_sound.proofs.ImagePremisesLemmas.Whole.{accepted_sets_are_laid_out, default_places_are_lawful}
 use Rattle.prem_text.specs.Lexing.Tokens.{start}
 

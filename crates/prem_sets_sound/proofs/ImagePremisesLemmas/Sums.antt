@@ -1,11 +1,10 @@
 -- Sums over the tasks of an image, by their numbers and by their list.
+use Rattle.std.proofs.Common.{nat_lt, ◌≡◌, ℕ, zero, suc, ◌+◌, ◌-◌, ◌*◌, ◌<◌, ◌≤◌, Bool, true, false, refl, ap, ◌∙◌, arith, List, [], ◌∷◌, length, map, drop, None, Some}
+use Rattle.std.specs.Prelude.{max, slice_index_or, if◌then◌else◌}
 use Rattle.prem_sets_sound.proofs.Prelude.{no_record, work_of, outputs_of, intervals_of, job_fact, task_record, part_count, Coded, Placed, task_places, placed_at, placed_from, Outputs}
-use Rattle.prem_sets_sound.proofs.Prelude.{Intervals, total_of, log_rules, log_room, Extent, Plant, limits_at, JobLimits, task_limits, sum_below, last_release, Resolved, ◌≡◌, ℕ, zero, suc}
-use Rattle.prem_sets_sound.proofs.Prelude.{◌+◌, ◌-◌, ◌*◌, ◌<◌, ◌≤◌, Bool, true, false, refl, ap, ◌∙◌, arith, List, [], ◌∷◌, length, map, drop, None, Some, slice_index_or, if◌then◌else◌}
+use Rattle.prem_sets_sound.proofs.Prelude.{Intervals, total_of, log_rules, log_room, Extent, Plant, limits_at, JobLimits, task_limits, sum_below, last_release, Resolved}
 use Rattle.prem_layout.specs.Bounds.{last_release as last_bound}
 use Rattle.prem_sets_sound.proofs.ImagePremisesLemmas.Follow.{not_above}
-use Rattle.std.proofs.Common.{nat_lt}
-use Rattle.std.specs.Prelude.{max}
 
 -- the first summand in front
 shifted : (n : ℕ) (f : ℕ → ℕ) → sum_below (suc n) f ≡ f 0 + sum_below n (λ k. f (suc k))

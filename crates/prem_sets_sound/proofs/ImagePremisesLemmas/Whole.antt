@@ -1,7 +1,8 @@
 -- The laws.
+use Rattle.std.proofs.Common.{◌≡◌, refl, ap, sym, subst, arith, List, [], ◌∷◌, map}
 use Rattle.prem_sets_sound.proofs.Prelude.{parts_may_be_placed, stub_passes, sized_of, placed_from, areas_apart, AreDistinct, Between, HasTextValues, HasCodedValues, LawfulSetsHaveValues}
 use Rattle.prem_sets_sound.proofs.Prelude.{LaidOutImagesJoin, AcceptedSetsAreLaidOut, DefaultPlacesAreLawful, AcceptedSetsJoin, AcceptedSetsAreSound, TaskText, coded_in, parts_in, places_in}
-use Rattle.prem_sets_sound.proofs.Prelude.{task_of, ◌≡◌, refl, ap, sym, subst, arith, List, [], ◌∷◌, map, length-map, All-from_recursion, recursion_from_All, AllByRecursion}
+use Rattle.prem_sets_sound.proofs.Prelude.{task_of, length-map, All-from_recursion, recursion_from_All, AllByRecursion}
 use Rattle.prem_list.specs.Sequence.{items_of}
 use Rattle.prem_sets_sound.proofs.ImagePremisesLemmas.Follow.{follow_long, follow_named, follow_values, keeps}
 use Rattle.prem_sets_sound.proofs.ImagePremisesLemmas.Records.{are_laid, records_lawful}

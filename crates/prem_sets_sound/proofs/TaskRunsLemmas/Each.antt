@@ -1,11 +1,11 @@
 -- Each placed task that keeps the rules joins.
+use Rattle.std.proofs.Common.{◌≡◌, ℕ, zero, suc, ◌+◌, ◌%◌, ◌^◌, ◌<◌, ◌≤◌, refl, ap, ◌∙◌, sym, subst, arith, true, List, [], ◌∷◌, length, map, None, Some, Option, slice_get, max}
 use Rattle.prem_sets_sound.proofs.Prelude.{call_to, no_pieces, Setting, GlobalsStand, IsStub, StartStands, run_in, TaskRun, start_code, job_bound_of, place_at, global_range, pass_count}
 use Rattle.prem_sets_sound.proofs.Prelude.{stub_passes, Coded, Placed, Plan, plan_before, plans_from, stretch_of, greatest_stated, depth_of, deepest, parts_of, is_marked_at, marked_before}
 use Rattle.prem_sets_sound.proofs.Prelude.{function_code, Extent, Device, Plant, limits_of, confinement_of, plan_at, confinement_in, job_calls, promise_for, TasksJoin, TaskPaces}
 use Rattle.prem_sets_sound.proofs.Prelude.{task_longest, TasksPace, JobsTell, TasksTell, PlacedStands, weight_in, content_of, setting_of, globals_in, CalmStands, Confinement, ConfinedStands}
 use Rattle.prem_sets_sound.proofs.Prelude.{TaskJoins, own_of, setup_of, AreOwnAt, ReturnsLast, sums_in, codes_in, IsPlacedTask, HasParts, RunStands, plain_callable, task_guard}
-use Rattle.prem_sets_sound.proofs.Prelude.{KeepsTaskRules, task_limits, read_globals, stated_at, Reading, Routine, Resolved, initial_words, is_marked, ProgramText, MarkText, ◌≡◌, ℕ, zero}
-use Rattle.prem_sets_sound.proofs.Prelude.{suc, ◌+◌, ◌%◌, ◌^◌, ◌<◌, ◌≤◌, refl, ap, ◌∙◌, sym, subst, arith, true, List, [], ◌∷◌, length, map, None, Some, Option, slice_get, max, All}
+use Rattle.prem_sets_sound.proofs.Prelude.{KeepsTaskRules, task_limits, read_globals, stated_at, Reading, Routine, Resolved, initial_words, is_marked, ProgramText, MarkText, All}
 use Rattle.prem_sets_sound.proofs.Prelude.{slice_index, slice_index_or, unwrap_or}
 use Rattle.prem_sets_sound.proofs.TaskRunsLemmas.Filled.{plan_there, routine_at, program_keeps, code_is, table_code, code_within, small_memory, codes_stand, part_listed}
 use Rattle.prem_sets_sound.proofs.TaskRunsLemmas.Joins.{TaskStands, joins, promise_is, paces, jobs_tell}

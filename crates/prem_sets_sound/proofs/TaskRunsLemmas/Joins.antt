@@ -1,13 +1,13 @@
 -- The run of a task that stands in memory goes along a weave, and gives what its source means.
+use Rattle.std.proofs.Common.{◌≡◌, ℕ, zero, suc, ◌+◌, ◌*◌, ◌%◌, ◌^◌, ◌<◌, ◌≤◌, refl, ap, ◌∙◌, sym, subst, arith, true, Bool, List, [], ◌∷◌, length, map, Ok, get_or}
 use Rattle.prem_sets_sound.proofs.Prelude.{in_job, call_to, no_pieces, Setting, reg_words, GlobalsStand, Noted, StubsFit, StartStands, JobMeans, JobsDone, AllOwn, Setup, first_registers}
 use Rattle.prem_sets_sound.proofs.Prelude.{TaskRun, TaskState, PlainState, TaskFits as StateTaskFits, Did, plain_start, Compatible, outputs_of, marked_calls_of, Placed, Sums, greatest}
 use Rattle.prem_sets_sound.proofs.Prelude.{parts_of, Plant, analysis_sound, limits_of, AreWords as AllWords, AlikeRoutines, next_routine, no_routines, job_calls, TaskPaces, JobsTell}
 use Rattle.prem_sets_sound.proofs.Prelude.{globals_in, CallIsCharged, job_charge, CallIsStrided, start_sums, WovenJobs, JobLimits, TaskJoins, OwnBytes, AreOwnAt, codes_in, callees_in}
 use Rattle.prem_sets_sound.proofs.Prelude.{job_callable, plain_callable, KeepsTaskRules, PacedFrom, AreStated, read_globals, stated_at, mark_of, promise_of, promise_in, TheseStand}
 use Rattle.prem_sets_sound.proofs.Prelude.{TheseAreOwn, HasShape, HaveLength, Weave, ends, goes, calls, joined, dids_of, calls_of, marks_of, IsWeave, IsOwnDid, Reading, Mark, resolve}
-use Rattle.prem_sets_sound.proofs.Prelude.{Routine, Resolved, unlimited, initial_words, start, do_jobs, source, ProgramState, MarkedCall, ProgramText, MarkText, FunctionText, ◌≡◌, ℕ, zero}
-use Rattle.prem_sets_sound.proofs.Prelude.{suc, ◌+◌, ◌*◌, ◌%◌, ◌^◌, ◌<◌, ◌≤◌, refl, ap, ◌∙◌, sym, subst, arith, true, Bool, List, [], ◌∷◌, length, map, Ok, get_or, length-map, All}
-use Rattle.prem_sets_sound.proofs.Prelude.{unwrap_or}
+use Rattle.prem_sets_sound.proofs.Prelude.{Routine, Resolved, unlimited, initial_words, start, do_jobs, source, ProgramState, MarkedCall, ProgramText, MarkText, FunctionText, length-map}
+use Rattle.prem_sets_sound.proofs.Prelude.{All, unwrap_or}
 use Rattle.prem_code_laws.proofs.GenLawsLemmas.Whole.{jobs_run}
 use Rattle.prem_code_laws.specs.ExprLaws.Registers.{AreWords}
 use Rattle.prem_code_laws.specs.GenLaws.Jobs.{Between}

@@ -1,12 +1,12 @@
 -- The stub of a marked function stands under its guard, and does what its function means.
+use Rattle.std.proofs.Common.{◌≡◌, ◌⊎◌, inl, inr, ℕ, zero, suc, ◌+◌, ◌^◌, ◌<◌, ◌≤◌, refl, ap, ◌∙◌, sym, subst, arith, cond, true, false, Bool, List, [], ◌∷◌, length, map, Option, None, Some}
+use Rattle.std.proofs.Common.{slice_get}
 use Rattle.prem_sets_sound.proofs.Prelude.{Pieces, no_pieces, size_of, IsQuiet, EachPiece, Guard, Setting, quiet_function, IsRunning, PartStands, with_guard, MarkedStands, TaskRun}
 use Rattle.prem_sets_sound.proofs.Prelude.{passes_are_few, place_at, ranges_of, footprint_of, conflict_of, pass_count, stub_passes, Coded, Placed, name_at, Plan, plans_of, LateRule, or_else}
 use Rattle.prem_sets_sound.proofs.Prelude.{of_conflict, conflict_in, first_conflict, stub_of, parts_of, marked_before, stub_part, function_code, is_in, HaveRoom, Extent, Device, Plant}
 use Rattle.prem_sets_sound.proofs.Prelude.{limits_of, confined_by, plan_at, stub_at, content_of, setting_of, globals_in, ConfinedStands, own_of, setup_of, AreOwnAt, CodeIsOwn, IsOf}
 use Rattle.prem_sets_sound.proofs.Prelude.{pieces_or, codes_in, reached_in, guard_of, StubStands, ReachFits, IsPlacedTask, HasParts, HasGuard, HasRanges, callees_in, reach_callable}
-use Rattle.prem_sets_sound.proofs.Prelude.{HasCodes, task_guard, job_frame, plan_frame, KeepsTaskRules, IsLegalPlan, PlanStands, StubIsWithin, Routine, ProgramText, ◌≡◌, ◌⊎◌, inl, inr, ℕ}
-use Rattle.prem_sets_sound.proofs.Prelude.{zero, suc, ◌+◌, ◌^◌, ◌<◌, ◌≤◌, refl, ap, ◌∙◌, sym, subst, arith, cond, true, false, Bool, List, [], ◌∷◌, length, map, Option, None, Some}
-use Rattle.prem_sets_sound.proofs.Prelude.{slice_get, slice_index}
+use Rattle.prem_sets_sound.proofs.Prelude.{HasCodes, task_guard, job_frame, plan_frame, KeepsTaskRules, IsLegalPlan, PlanStands, StubIsWithin, Routine, ProgramText, slice_index}
 use Rattle.prem_sets_sound.proofs.TaskRunsLemmas.Filled.{program_keeps, table_code, code_is, stub_there, legal, code_within, small_memory, code_listed, part_listed, stub_listed}
 use Rattle.prem_sets_sound.proofs.TaskRunsLemmas.Means.{StubMeans}
 use Rattle.prem_sets_sound.proofs.TaskRunsLemmas.Words.{job_fits, code_stands, stub_stands}

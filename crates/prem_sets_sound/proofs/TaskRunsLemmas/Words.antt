@@ -1,8 +1,8 @@
 -- All code of a placed task that keeps the rules has words, which stand at their places.
+use Rattle.std.proofs.Common.{◌≡◌, ℕ, zero, suc, ◌+◌, ◌*◌, ◌%◌, ◌^◌, ◌<◌, ◌≤◌, refl, ap, ◌∙◌, sym, subst, arith, List, [], ◌∷◌, length, map, Some, slice_get, ⊎_elim}
 use Rattle.prem_sets_sound.proofs.Prelude.{Pieces, programs_have_words, rounded, PartStands, StartStands, run_in, passes_are_few, start_code, place_at, no_place, stack_place, stub_passes}
 use Rattle.prem_sets_sound.proofs.Prelude.{part_count, pass_count, Coded, Placed, Plan, plans_of, stub_of, frame_of, slots_of, parts_of, codes_of, function_code, Extent, Device, Plant}
-use Rattle.prem_sets_sound.proofs.Prelude.{limits_of, content_of, setting_of, setup_of, JobFits, IsPlacedTask, HasParts, task_guard, KeepsTaskRules, Routine, Resolved, ProgramText, ◌≡◌, ℕ}
-use Rattle.prem_sets_sound.proofs.Prelude.{zero, suc, ◌+◌, ◌*◌, ◌%◌, ◌^◌, ◌<◌, ◌≤◌, refl, ap, ◌∙◌, sym, subst, arith, List, [], ◌∷◌, length, map, Some, slice_get, ⊎_elim, cases_lt}
+use Rattle.prem_sets_sound.proofs.Prelude.{limits_of, content_of, setting_of, setup_of, JobFits, IsPlacedTask, HasParts, task_guard, KeepsTaskRules, Routine, Resolved, ProgramText, cases_lt}
 use Rattle.prem_sets_sound.proofs.Prelude.{length-map, length-take, get_or_past, slice_get_within, slice_get-map, get_or_from_slice_get, All, slice_index, slice_index_or}
 use Rattle.prem_asm.specs.Fit.{PiecesFit}
 use Rattle.prem_code_laws.specs.FitLaws.Whole.{HasAddresses, ProgramHasWords}

@@ -1,8 +1,8 @@
 -- Sets that break no rule, as what the machine's side of soundness asks of an image.
+use Rattle.std.specs.Prelude.{◌≡◌, ℕ, ◌<◌, All, List, length, map, slice_get, slice_index_or, None, Some, Ok}
 use Rattle.prem_sets_sound.specs.Prelude.{run_in, image_setup, Setup, limit_of, Coded, Placed, placed_from, code_rules, reach_rules, conflict_rules, bound_rules, length_rules, log_rules}
 use Rattle.prem_sets_sound.specs.Prelude.{items_of, ReplacementRule, OrderRule, Extent, AreLawful, Between, IsPlant, Device, Plant, bounded, IsPolicy, Promise, AreInputs, Sound, ProgramText}
-use Rattle.prem_sets_sound.specs.Prelude.{TaskText, TaskSet, coded_one, broken, coded_in, parts_in, places_in, placed_in, job_bounds, compiled, AreDevices, IsSet, set_of, reads, ◌≡◌, ℕ, ◌<◌}
-use Rattle.prem_sets_sound.specs.Prelude.{All, List, length, map, slice_get, slice_index_or, None, Some, Ok}
+use Rattle.prem_sets_sound.specs.Prelude.{TaskText, TaskSet, coded_one, broken, coded_in, parts_in, places_in, placed_in, job_bounds, compiled, AreDevices, IsSet, set_of, reads}
 use Rattle.prem_layout.specs.Placed.{parts_of}
 use Rattle.prem_plant.specs.Label.{IsName, AreDistinct}
 use Rattle.prem_sets_sound.specs.StubLaws.Initial.Initial.{content_of}

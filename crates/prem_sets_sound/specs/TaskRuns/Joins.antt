@@ -1,6 +1,7 @@
 -- The run of a placed task that keeps the rules joins: it goes along a weave, gives what its source means, and stays within its bounds.
+use Rattle.std.specs.Prelude.{◌≡◌, ◌<◌, ◌≤◌, ◌^◌, ℕ, Bool, max, All, List, [], slice_index_or}
 use Rattle.prem_sets_sound.specs.Prelude.{Setting, Calls, Globals, run_in, Setup, TaskRun, global_range, pass_count, stub_passes, Coded, Placed, stretch_of, greatest_stated, Extent, Device}
-use Rattle.prem_sets_sound.specs.Prelude.{Plant, limits_of, Promise, Resolved, Limits, ProgramText, ◌≡◌, ◌<◌, ◌≤◌, ◌^◌, ℕ, Bool, max, All, List, [], slice_index_or}
+use Rattle.prem_sets_sound.specs.Prelude.{Plant, limits_of, Promise, Resolved, Limits, ProgramText}
 use Rattle.prem_sets_sound.specs.TaskRuns.Called.{job_calls}
 use Rattle.prem_sets_sound.specs.StubLaws.Initial.Initial.{content_of}
 use Rattle.prem_sets_sound.specs.StubLaws.Initial.Standing.{setting_of, globals_in}

@@ -1,5 +1,6 @@
 -- What is due for the job and the stretch in which a task's run on its own stands.
-use Rattle.prem_sound.proofs.Prelude.{TaskRun, plain_did, plain_run, Plant, job_by, stretch_by, begun_by, Script, ◌≡◌, ℕ, suc, ◌+◌, ap, arith}
+use Rattle.std.proofs.Common.{◌≡◌, ℕ, suc, ◌+◌, ap, arith}
+use Rattle.prem_sound.proofs.Prelude.{TaskRun, plain_did, plain_run, Plant, job_by, stretch_by, begun_by, Script}
 use Rattle.prem_sound.specs.Paced.Paced.{job_with, stretch_with}
 
 pub job_by-next : (plant : Plant) (s : Script) (run : TaskRun) (n : ℕ) → job_by plant s run (n + 1) ≡ job_with plant s (begun_by run n) (plain_did run (plain_run run n)) (job_by plant s run n)

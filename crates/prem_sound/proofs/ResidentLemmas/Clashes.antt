@@ -1,7 +1,7 @@
 -- Where the core wants the bus only while the window is closed, core and gate never want one cycle both.
+use Rattle.std.proofs.Common.{◌≡◌, ℕ, ◌+◌, ◌<◌, ◌≤◌, refl, ap, ◌∙◌, arith, leb, Some, None, Option, true, false, Bool, List, length, ⊎_elim}
 use Rattle.prem_sound.proofs.Prelude.{none_inside, CarriesInside, startable_is, GateState, GatesState, Turned, gate_at, no_gate, startable, taken, carries, wants, starts, bus_with, bus_turn}
-use Rattle.prem_sound.proofs.Prelude.{IsStart, Carried, CoreWant, No, New, Held, Window, ◌≡◌, ℕ, ◌+◌, ◌<◌, ◌≤◌, refl, ap, ◌∙◌, arith, leb, Some, None, Option, true, false, Bool, List}
-use Rattle.prem_sound.proofs.Prelude.{length, ⊎_elim, cases_lt, cond_both, get_or_past, All}
+use Rattle.prem_sound.proofs.Prelude.{IsStart, Carried, CoreWant, No, New, Held, Window, cases_lt, cond_both, get_or_past, All}
 use Rattle.prem_gate.specs.Gates.{ends, goes_on}
 
 -- ---- a closed window

@@ -1,8 +1,9 @@
 -- What an instruction adds to the counts, and what it makes the core owe.
+use Rattle.std.proofs.Common.{◌≡◌, ℕ, ◌+◌, ◌<◌, ◌≤◌, refl, ap, ◌∙◌, sym, subst, arith, cond, Some, None, Option, true, false, Bool, List, [], ◌∷◌, ◌++◌}
+use Rattle.std.specs.Prelude.{not, ◌&&◌, Result, Ok, Err, slice_index}
 use Rattle.prem_sound.proofs.Prelude.{Traps, Executes, attempt_by, attempt_fetched, attempt_in, LineTouch, owed_by, one_if, is_execution, with_touch, with_touches, with_store, Task, Counts}
 use Rattle.prem_sound.proofs.Prelude.{act_fits, fetch_fits, act, fetch, OnDone, EffectFits, AccessMatches, Fits, next_input, Access, Loads, Stores, Cause, Effect, Outcome, Trap, Done, Phase}
-use Rattle.prem_sound.proofs.Prelude.{Compatible, Execution, Stored, Instr, Plant, Target, StoresNothing, ◌≡◌, ℕ, ◌+◌, ◌<◌, ◌≤◌, refl, ap, ◌∙◌, sym, subst, arith, cond, Some, None, Option}
-use Rattle.prem_sound.proofs.Prelude.{true, false, Bool, List, [], ◌∷◌, ◌++◌, not, ◌&&◌, Result, Ok, Err, slice_index}
+use Rattle.prem_sound.proofs.Prelude.{Compatible, Execution, Stored, Instr, Plant, Target, StoresNothing}
 use Rattle.prem_isa.specs.declared.effect.Phase.TheVariants.{Memory as MemoryPhase}
 use Rattle.prem_sound.proofs.ResidentLemmas.Touches.{missed_lines}
 

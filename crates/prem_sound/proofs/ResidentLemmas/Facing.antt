@@ -1,10 +1,10 @@
 -- A core's part of a cycle, whatever the bus does that serves it and leaves its tasks' bytes: its own move, or none at a
 -- scheduling point.
+use Rattle.std.proofs.Common.{◌≡◌, ℕ, ◌+◌, refl, ap, ◌∙◌, arith, true, false, Bool, List, length, inl}
 use Rattle.prem_sound.proofs.Prelude.{MayMove, does, stands_still, MayMoveIn, turn_with, may_schedule, IsIssued, issued_move, Moves as Scheduled, Stands, Runs, bump_move, BusKeeps}
 use Rattle.prem_sound.proofs.Prelude.{bus_stands, Position, moved_position, ticked_position, CoreCloses, ticked_closes, TurnCloses, turn_closes, want_of, CoreMove, Passes, Issues, phase_in}
 use Rattle.prem_sound.proofs.Prelude.{Arrivals, with_memory, with_clash, joined, ticked, one_if, WindowCloses, Setup, Work, CoreState, Counts, MachineState, start_of, Point, Running, Turned}
-use Rattle.prem_sound.proofs.Prelude.{wants, TaskRun, ReplacementRule, lines_in, OrderRule, TaskJobs, IsPolicy, begun_by, Script, ◌≡◌, ℕ, ◌+◌, refl, ap, ◌∙◌, arith, true, false, Bool, List}
-use Rattle.prem_sound.proofs.Prelude.{length, inl}
+use Rattle.prem_sound.proofs.Prelude.{wants, TaskRun, ReplacementRule, lines_in, OrderRule, TaskJobs, IsPolicy, begun_by, Script}
 use Rattle.prem_cycle.proofs.RunsLemmas.WindowLemmas.Moves.{Moves as Windowed, moves as windowed}
 use Rattle.prem_sound.proofs.ResidentLemmas.Counted.{NoFaults}
 use Rattle.prem_sound.proofs.ResidentLemmas.Keeps.{IsCalm, CalmMove, calm_moves, same_phase, KeepScripts, TurnKeeps, turn_keeps, Keeps, ticked_keeps}

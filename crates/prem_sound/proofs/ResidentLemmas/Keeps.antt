@@ -1,12 +1,13 @@
 -- A cycle of a run whose tasks keep to their scripts: nothing misses in an execution phase, and nothing clashes.
+use Rattle.std.proofs.Common.{◌≡◌, ℕ, ◌+◌, ◌-◌, ◌<◌, ◌≤◌, refl, ap, ◌∙◌, sym, subst, arith, cond, ltb, Some, None, Option, true, false, Bool, List, [], ◌∷◌, length, inl, inr, ⊎_elim}
+use Rattle.std.specs.Prelude.{◌&&◌, is_some}
 use Rattle.prem_sound.proofs.Prelude.{MoveCase, pays_on_bus, is_denied, pays_cost, waits, goes_on, switches, begins, chooses, chooses_now, begins_idle, has_finished, idles, issuing_did}
 use Rattle.prem_sound.proofs.Prelude.{Moves as Scheduled, bump, IsAt, Stands, Issuing, Runs, bump_move, issuing, IsKept, kept_plant, MayIssue as WindowIssue, want_of, is_paid, CoreMove}
 use Rattle.prem_sound.proofs.Prelude.{Passes, Issues, is_predictable, phase_in, window_after, CoreTurn, core_issue, core_turn, ends_before, at_point, close_interval, settle, with_now}
 use Rattle.prem_sound.proofs.Prelude.{next_cycle, ticked, Executes, issued_by, is_execution, Setup, Task, Work, CoreState, Counts, MachineState, task_in, Interval, Mode, Point, Switching}
 use Rattle.prem_sound.proofs.Prelude.{Running, Idle, wants, Window, plain_fits, cost_of, TaskRun, PlainState, Did, did_of, plain_did, plain_run, Access, Change, Stay, Memory, Execute, End}
 use Rattle.prem_sound.proofs.Prelude.{Job, Effect, Phase, Compatible, Execution, CacheState, ReplacementRule, lines_in, lines_of, OrderRule, IsPlant, Plant, TaskJobs, IsPolicy, lines_of_did}
-use Rattle.prem_sound.proofs.Prelude.{StoresNothing, Script, IsScript, ◌≡◌, ℕ, ◌+◌, ◌-◌, ◌<◌, ◌≤◌, refl, ap, ◌∙◌, sym, subst, arith, cond, ltb, Some, None, Option, true, false, Bool, List}
-use Rattle.prem_sound.proofs.Prelude.{[], ◌∷◌, length, inl, inr, ⊎_elim, and_parts, cases_Bool, cond_both, length-map, ◌&&◌, is_some}
+use Rattle.prem_sound.proofs.Prelude.{StoresNothing, Script, IsScript, and_parts, cases_Bool, cond_both, length-map}
 use Rattle.prem_cycle.proofs.RunsLemmas.WindowLemmas.Moves.{Moves as Windowed}
 use Rattle.prem_isa.specs.declared.effect.Phase.TheVariants.{Memory as MemoryPhase}
 use Rattle.prem_sound.proofs.ResidentLemmas.Counted.{NoFaults, owed_none, issue_counts, AttemptFits, attempt_fits}

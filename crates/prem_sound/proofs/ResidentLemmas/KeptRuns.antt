@@ -1,9 +1,9 @@
 -- Every state of a run whose tasks keep to their scripts.
+use Rattle.std.proofs.Common.{◌≡◌, ℕ, zero, suc, sym, subst, cond, None, Option, true, false, Bool, List, ⊎_elim}
 use Rattle.prem_sound.proofs.Prelude.{move_cases, does, run_stands, AllAt, count_move, runs_of, keeps_of, Runs, arrivals_inside, run_holds, want_of, CoreMove, Arrivals, arrivals_at, bus_at}
 use Rattle.prem_sound.proofs.Prelude.{with_memory, move_at, cycle_of, is_over, step_of, CycleStep, step_with, coming_step, cycles_of, steps_of, memory_of, run_of, count_of, issued_of}
 use Rattle.prem_sound.proofs.Prelude.{AreOwn, IsRunnable, CarriesInside, WindowsHold, HaveCosts, Setup, MachineState, start_of, Turned, Request, IsPlaced, TaskRun, with_last}
-use Rattle.prem_sound.proofs.Prelude.{ReplacementRule, OrderRule, IsPolicy, ScriptsMakeNoFault, Script, ◌≡◌, ℕ, zero, suc, sym, subst, cond, None, Option, true, false, Bool, List, ⊎_elim}
-use Rattle.prem_sound.proofs.Prelude.{cases_Bool, All}
+use Rattle.prem_sound.proofs.Prelude.{ReplacementRule, OrderRule, IsPolicy, ScriptsMakeNoFault, Script, cases_Bool, All}
 use Rattle.prem_sound.proofs.ResidentLemmas.Clashes.{turn_calm, turn_serves}
 use Rattle.prem_sound.proofs.ResidentLemmas.Counted.{NoFaults}
 use Rattle.prem_sound.proofs.ResidentLemmas.Facing.{KnownCore, Meets, Comes, comes, core_keeps, start_faultless}

@@ -1,11 +1,12 @@
 -- When a core needs the bus: in a switch, and in an interval before its `pm.exec`. In each other part it owes no transaction.
+use Rattle.std.proofs.Common.{◌≡◌, ℕ, ◌+◌, ◌-◌, ◌<◌, refl, ap, ◌∙◌, sym, subst, ltb, Some, true, false, Bool, List, length, inl, inr}
+use Rattle.std.specs.Prelude.{◌&&◌, not, is_some}
 use Rattle.prem_sound.proofs.Prelude.{MoveCase, pays_on_bus, is_denied, pays_cost, waits, goes_on, switches, begins, chooses, chooses_now, begins_idle, has_finished, idles, wants_none}
 use Rattle.prem_sound.proofs.Prelude.{paid_none, issuing_did, MayMove, does, stands_still, turn_with, Moves as Scheduled, bump, Stands, Issuing, Runs, bump_move, issuing, want_of, is_paid}
 use Rattle.prem_sound.proofs.Prelude.{CoreMove, Passes, Issues, phase_in, CoreTurn, core_issue, core_turn, Arrivals, with_memory, with_clash, ends_before, at_point, close_interval, settle}
 use Rattle.prem_sound.proofs.Prelude.{with_now, next_cycle, ticked, issued_by, is_execution, Setup, Work, CoreState, Counts, MachineState, start_of, task_in, Interval, Mode, Point}
 use Rattle.prem_sound.proofs.Prelude.{Switching, Running, Idle, Turned, wants, phase_after, IsLawful, cost_of, TaskRun, Did, did_of, plain_did, plain_run, Change, Stay, Memory, Execute, End}
-use Rattle.prem_sound.proofs.Prelude.{Job, Phase, Compatible, Execution, ReplacementRule, lines_in, OrderRule, TaskJobs, IsPolicy, Script, ◌≡◌, ℕ, ◌+◌, ◌-◌, ◌<◌, refl, ap, ◌∙◌, sym, subst}
-use Rattle.prem_sound.proofs.Prelude.{ltb, Some, true, false, Bool, List, length, inl, inr, and_parts, cond_both, ◌&&◌, not, is_some}
+use Rattle.prem_sound.proofs.Prelude.{Job, Phase, Compatible, Execution, ReplacementRule, lines_in, OrderRule, TaskJobs, IsPolicy, Script, and_parts, cond_both}
 use Rattle.prem_isa.specs.declared.effect.Phase.TheVariants.{Memory as MemoryPhase}
 use Rattle.prem_sound.proofs.ResidentLemmas.Counted.{owed_none}
 use Rattle.prem_sound.proofs.ResidentLemmas.Facing.{Meets, Faces, Comes}

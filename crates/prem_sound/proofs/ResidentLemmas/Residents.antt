@@ -1,10 +1,11 @@
 -- While a task is in a predictable interval, its lines stand as the interval's touches leave them.
+use Rattle.std.proofs.Common.{◌≡◌, ◌≢◌, ℕ, zero, suc, ◌<◌, refl, ap, ◌∙◌, sym, subst, true, false, Bool, Some, List, [], ◌∷◌, ◌++◌, length, ◌⊎◌, inl, inr, ⊎_elim}
 use Rattle.prem_sound.proofs.Prelude.{Continues, MoveCase, pays_on_bus, is_denied, pays_cost, waits, goes_on, switches, begins, chooses, chooses_now, begins_idle, has_finished, idles, bump}
 use Rattle.prem_sound.proofs.Prelude.{bump_same, bump_other, CoreMove, Passes, Issues, is_predictable, new_interval, phase_in, stated_after, ends_before, is_execution, Setup, Work}
 use Rattle.prem_sound.proofs.Prelude.{CoreState, Interval, Mode, Point, Switching, Running, Idle, plain_steps-next, phase_after, IsLawful, TaskRun, Did, plain_did, plain_step, plain_run}
 use Rattle.prem_sound.proofs.Prelude.{Change, Stay, Memory, Execute, End, Job, Phase, Compatible, Execution, OrderRule, HaveRoom, IsCacheFullAfter, caches_after, cache_misses, Plant}
 use Rattle.prem_sound.proofs.Prelude.{TaskJobs, lines_of_did, lines_of_dids, Begun, steps_after, begun_after, begun_with, begun_by, Call, IsCovered, Opens, IsStep, Script, call_of, IsScript}
-use Rattle.prem_sound.proofs.Prelude.{◌≡◌, ◌≢◌, ℕ, zero, suc, ◌<◌, refl, ap, ◌∙◌, sym, subst, true, false, Bool, Some, List, [], ◌∷◌, ◌++◌, length, ◌⊎◌, inl, inr, ⊎_elim, cases_eq}
+use Rattle.prem_sound.proofs.Prelude.{cases_eq}
 use Rattle.prem_isa.specs.declared.effect.Phase.TheVariants.{Memory as MemoryPhase}
 use Rattle.prem_sound.proofs.ScriptLemmas.Begins.{Executed, executed, next_phase, did_lawful, begun_by-next, Brought, brought_in}
 use Rattle.prem_sound.proofs.ScriptLemmas.Residency.{lines_of_dids-last, Since, since_none, since_more, covered_hits}

@@ -1,8 +1,9 @@
 -- The touches of an instruction: which of them miss, and how the lines stand behind them.
+use Rattle.std.proofs.Common.{◌≡◌, ℕ, ◌+◌, ◌/◌, ◌<◌, ◌≤◌, refl, ap, ◌∙◌, sym, subst, arith, cond, Some, None, Option, List, [], ◌∷◌, length}
 use Rattle.prem_sound.proofs.Prelude.{IsKept, kept_plant, line_in, LineTouch, stored_in, Issued, issued_with, issued_by, task_after, Setup, record_of, Task, Work, task_in, Access, Effect}
 use Rattle.prem_sound.proofs.Prelude.{Stored, touch_kept, touch_hit, is_in-order, lines_in-touch, lines_in-same, lines-write_line, some_sets, CacheState, Touched, set_of, touch_of, IsCache}
 use Rattle.prem_sound.proofs.Prelude.{ReplacementRule, write_line, lines_in, IsRule, MovesBy, bytes_of, is_in, OrderRule, order_of, cache_after, caches_after, cache_misses, Plant}
-use Rattle.prem_sound.proofs.Prelude.{access_lines, ◌≡◌, ℕ, ◌+◌, ◌/◌, ◌<◌, ◌≤◌, refl, ap, ◌∙◌, sym, subst, arith, cond, Some, None, Option, List, [], ◌∷◌, length, length-set, slice_set}
+use Rattle.prem_sound.proofs.Prelude.{access_lines, length-set, slice_set}
 
 -- the lines of those that miss
 abbrev pub missed_lines : List LineTouch → List ℕ

@@ -1,9 +1,9 @@
 -- Where each instruction is a scope by itself, it is charged what is due for it.
+use Rattle.std.proofs.Common.{◌≡◌, ℕ, zero, suc, ◌+◌, ◌*◌, refl, ap, ◌∙◌, sym, subst, arith, Some, None, Option, List, [], ◌∷◌, append-nil, length}
 use Rattle.prem_sound.proofs.Prelude.{data_accesses, accesses_of, due_of, cost_of, TaskRun, Did, plain_did, plain_run, Access, Phase, Compatible, Execution, all_by, AllIn, Plant, within_job}
 use Rattle.prem_sound.proofs.Prelude.{job_by, within_stretch, own_due, stretch_by, lines_with, scope_by, IsScoped, charge_with, Charges, charges_by, own_charge, did_charge, job_with}
 use Rattle.prem_sound.proofs.Prelude.{job_charged, stretch_with, stretch_charged, charge_due, all_charged, alone_with, each_alone, PacedRunsAreCharged, SinglesAreDue, line_cost, roomy_of}
-use Rattle.prem_sound.proofs.Prelude.{crowded_of, access_lines, lines_of_did, lines_of_dids, cost_of_dids, begun_by, change_due, did_due, Script, call_at, due_with, due_by, ◌≡◌, ℕ, zero}
-use Rattle.prem_sound.proofs.Prelude.{suc, ◌+◌, ◌*◌, refl, ap, ◌∙◌, sym, subst, arith, Some, None, Option, List, [], ◌∷◌, append-nil, length, sum_by-cons}
+use Rattle.prem_sound.proofs.Prelude.{crowded_of, access_lines, lines_of_did, lines_of_dids, cost_of_dids, begun_by, change_due, did_due, Script, call_at, due_with, due_by, sum_by-cons}
 use Rattle.prem_isa.specs.declared.effect.Phase.TheVariants.{Memory as MemoryPhase}
 use Rattle.prem_sound.proofs.ScopesLemmas.Misses.{both_parts}
 

@@ -1,9 +1,9 @@
 -- What the job and the stretch in which a task's run on its own stands are charged.
+use Rattle.std.proofs.Common.{◌≡◌, ℕ, zero, suc, ◌+◌, ◌*◌, ◌<◌, ◌≤◌, refl, ap, ◌∙◌, sym, subst, arith, Some, None, Option, List, length}
 use Rattle.prem_sound.proofs.Prelude.{cost_bounds, IsLawful, cost_of, TaskRun, PlainState, Did, moved_by, after_change, plain_did, plain_step, plain_steps, plain_run, Change, Stay, Memory}
 use Rattle.prem_sound.proofs.Prelude.{Execute, End, Job, Phase, Compatible, Execution, Plant, within_job, within_stretch, Scoping, lines_with, scope_with, scope_by, lines_charged}
 use Rattle.prem_sound.proofs.Prelude.{charge_with, Charges, own_charge, did_charge, job_with, job_charged, stretch_with, stretch_charged, IsCharged, charge_due, all_charged, line_cost}
-use Rattle.prem_sound.proofs.Prelude.{crowded_of, begun_by, change_due, Script, call_at, lines_of_did, ◌≡◌, ℕ, zero, suc, ◌+◌, ◌*◌, ◌<◌, ◌≤◌, refl, ap, ◌∙◌, sym, subst, arith, Some, None}
-use Rattle.prem_sound.proofs.Prelude.{Option, List, length}
+use Rattle.prem_sound.proofs.Prelude.{crowded_of, begun_by, change_due, Script, call_at, lines_of_did}
 use Rattle.prem_isa.specs.declared.effect.Phase.TheVariants.{Memory as MemoryPhase}
 use Rattle.prem_sound.proofs.ScriptLemmas.Begins.{Executed, executed, did_lawful, still_by}
 

@@ -1,8 +1,8 @@
 -- A scope's credit: the lines of its roomy sets that haven't missed since it began are paid for.
+use Rattle.std.proofs.Common.{◌≡◌, ℕ, ◌+◌, ◌-◌, ◌*◌, ◌<◌, ◌≤◌, refl, ap, ◌∙◌, sym, subst, arith, cond, true, false, Bool, Some, None, Option, List, [], ◌∷◌, ◌++◌, length}
 use Rattle.prem_sound.proofs.Prelude.{total, LineTouch, owed_by, cost_bounds, cost_of, Did, all_append, length-caches_after, AllIn, OrderRule, caches_after, cache_misses, CacheMissesOnce}
-use Rattle.prem_sound.proofs.Prelude.{Plant, lines_with, charge_with, MissesOweLittle, line_cost, roomy_of, crowded_of, lines_of_did, ◌≡◌, ℕ, ◌+◌, ◌-◌, ◌*◌, ◌<◌, ◌≤◌, refl, ap, ◌∙◌, sym}
-use Rattle.prem_sound.proofs.Prelude.{subst, arith, cond, true, false, Bool, Some, None, Option, List, [], ◌∷◌, ◌++◌, length, add-mul, length-append, filter-append, sum_by-cons, mul-le, not}
-use Rattle.prem_sound.proofs.Prelude.{sum, filter}
+use Rattle.prem_sound.proofs.Prelude.{Plant, lines_with, charge_with, MissesOweLittle, line_cost, roomy_of, crowded_of, lines_of_did, add-mul, length-append, filter-append, sum_by-cons}
+use Rattle.prem_sound.proofs.Prelude.{mul-le, not, sum, filter}
 use Rattle.prem_sound.proofs.Paces.{owed_misses}
 use Rattle.prem_sound.proofs.ResidentLemmas.Touches.{missed_lines}
 use Rattle.prem_sound.proofs.ScopesLemmas.Misses.{few_roomy, few_crowded, both_parts}

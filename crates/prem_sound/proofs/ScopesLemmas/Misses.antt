@@ -1,8 +1,8 @@
 -- In the roomy sets of a collection each of its lines misses once at most, and in the crowded ones each touch.
+use Rattle.std.proofs.Common.{◌≡◌, ℕ, ◌+◌, ◌%◌, ◌<◌, ◌≤◌, refl, ap, ◌∙◌, sym, subst, arith, cond, eqb, true, false, Bool, List, [], ◌∷◌, length, get_or, ⊎_elim}
 use Rattle.prem_sound.proofs.Prelude.{few_misses, in_other, in_head, in_tail, kind_cache_once, is_in, AllIn, OrderRule, order_after, order_of, cache_after, cache_misses, of_set, HaveRoom}
-use Rattle.prem_sound.proofs.Prelude.{CacheMissesOnce, order_rule_of, Plant, ScopesMissLittle, KindsMissLittle, is_roomy, roomy_of, crowded_of, lines_of_dids, ◌≡◌, ℕ, ◌+◌, ◌%◌, ◌<◌, ◌≤◌}
-use Rattle.prem_sound.proofs.Prelude.{refl, ap, ◌∙◌, sym, subst, arith, cond, eqb, true, false, Bool, List, [], ◌∷◌, length, get_or, ⊎_elim, cases_eq, cases_Bool, cond_both, ne_eqb}
-use Rattle.prem_sound.proofs.Prelude.{leb-true, length-set, get_or-set_same, get_or-set_other, mod_below, not, slice_set, filter}
+use Rattle.prem_sound.proofs.Prelude.{CacheMissesOnce, order_rule_of, Plant, ScopesMissLittle, KindsMissLittle, is_roomy, roomy_of, crowded_of, lines_of_dids, cases_eq, cases_Bool}
+use Rattle.prem_sound.proofs.Prelude.{cond_both, ne_eqb, leb-true, length-set, get_or-set_same, get_or-set_other, mod_below, not, slice_set, filter}
 
 -- ---- lists that are filtered
 

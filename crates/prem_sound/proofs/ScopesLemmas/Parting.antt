@@ -1,8 +1,8 @@
 -- Instructions parted into scopes, and the strands that they give.
+use Rattle.std.proofs.Common.{◌≡◌, ℕ, suc, ◌+◌, ◌*◌, ◌≤◌, refl, ap, ◌∙◌, sym, subst, arith, List, [], ◌∷◌, ◌++◌, append_assoc, append-nil}
 use Rattle.prem_sound.proofs.Prelude.{due_of, Did, Change, Stay, Memory, Execute, End, Job, Plant, within_stretch, Scope, KeepsToLines, charge_of, dids_of, charges_of, single, Strand, ends}
 use Rattle.prem_sound.proofs.Prelude.{runs, calls, dids_along, GoesTo, IsWithinInterval, IsStrand, change_behind, last_change, calls_begun, scope_due, begun_along, charges_along, EndsNoJob}
-use Rattle.prem_sound.proofs.Prelude.{StretchesWithin, change_due, call_at, Script, ◌≡◌, ℕ, suc, ◌+◌, ◌*◌, ◌≤◌, refl, ap, ◌∙◌, sym, subst, arith, List, [], ◌∷◌, ◌++◌, append_assoc}
-use Rattle.prem_sound.proofs.Prelude.{append-nil, All-nil, All-cons, All-append, sum_by-cons, All, sum_by}
+use Rattle.prem_sound.proofs.Prelude.{StretchesWithin, change_due, call_at, Script, All-nil, All-cons, All-append, sum_by-cons, All, sum_by}
 use Rattle.prem_sound.proofs.ScopesLemmas.Alone.{singles_are_due}
 use Rattle.prem_sound.specs.Scopes.Parted.{IsQuiet, strand_of, stretch_along, OneIsParted, EachIsParted, PartsJoin, PartsGrow, PartsAreStrands, CallsAreStrands, JobsEndDue, StrandsSumUp}
 use Rattle.prem_sound.specs.Scopes.Parted.{StretchesShrink}

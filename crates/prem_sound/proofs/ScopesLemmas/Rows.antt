@@ -1,5 +1,6 @@
 -- Collections in a small cache of four sets with two ways, and what touches of them miss.
-use Rattle.prem_sound.proofs.Prelude.{lru, fifo, cache_misses, Plant, Lru, is_roomy, roomy_of, crowded_of, most_misses, ◌≡◌, ℕ, refl, true, false, List, [], ◌∷◌, length, replicate}
+use Rattle.std.proofs.Common.{◌≡◌, ℕ, refl, true, false, List, [], ◌∷◌, length, replicate}
+use Rattle.prem_sound.proofs.Prelude.{lru, fifo, cache_misses, Plant, Lru, is_roomy, roomy_of, crowded_of, most_misses}
 use Rattle.prem_plant.specs.declared.plant.Target.TheVariants.{Rv32i}
 
 abbrev small : Plant

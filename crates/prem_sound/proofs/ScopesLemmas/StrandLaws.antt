@@ -1,10 +1,10 @@
 -- Strands one behind another, and what a scope's charge is made of.
+use Rattle.std.proofs.Common.{◌≡◌, ℕ, suc, ◌+◌, ◌*◌, ◌≤◌, refl, ap, ◌∙◌, sym, subst, arith, None, List, [], ◌∷◌, ◌++◌, append_assoc, length, slice_index_or, ◌%◌, ◌/◌, cond, true, false}
+use Rattle.std.proofs.Common.{Bool, Some, Option}
 use Rattle.prem_sound.proofs.Prelude.{cost_of, Did, Access, Change, Stay, Memory, Execute, End, Job, Plant, within_job, within_stretch, charge_with, crowd_cost, access_cost, ScopesSumUp}
 use Rattle.prem_sound.proofs.Prelude.{ChargesByAccess, line_cost, is_roomy, roomy_of, crowded_of, Scope, charge_of, Strand, ends, runs, calls, dids_along, IsStrand, last_change, calls_begun}
 use Rattle.prem_sound.proofs.Prelude.{scope_due, ChargedFrom, begun_along, charges_along, EndsNoJob, StretchesWithin, StrandsJoin, JobsAreCharged, ChargesLookAtCalls, access_lines}
-use Rattle.prem_sound.proofs.Prelude.{lines_of_did, lines_of_dids, cost_of_dids, change_due, Call, no_call, Script, ◌≡◌, ℕ, suc, ◌+◌, ◌*◌, ◌≤◌, refl, ap, ◌∙◌, sym, subst, arith, None, List}
-use Rattle.prem_sound.proofs.Prelude.{[], ◌∷◌, ◌++◌, append_assoc, length, slice_index_or, ◌%◌, ◌/◌, cond, true, false, Bool, Some, Option, add-mul, length-append, filter-append}
-use Rattle.prem_sound.proofs.Prelude.{sum_by-cons, sum_by, not}
+use Rattle.prem_sound.proofs.Prelude.{lines_of_did, lines_of_dids, cost_of_dids, change_due, Call, no_call, Script, add-mul, length-append, filter-append, sum_by-cons, sum_by, not}
 use Rattle.prem_sound.specs.Scopes.Strands.{joined}
 
 -- ---- a scope

@@ -1,12 +1,12 @@
 -- A run along a strand is scoped and charged as the strand is.
+use Rattle.std.proofs.Common.{◌≡◌, ℕ, suc, ◌+◌, ◌*◌, ◌<◌, ◌≤◌, refl, ap, ◌∙◌, sym, subst, arith, true, false, Some, None, Option, List, [], ◌∷◌, ◌++◌, length, slice_index_or, ⊎_elim}
 use Rattle.prem_sound.proofs.Prelude.{is_predictable, plain_run-add, plain_trace-add, IsLawful, cost_of, TaskRun, PlainState, Did, is_running, plain_did, plain_start, plain_steps, plain_run}
 use Rattle.prem_sound.proofs.Prelude.{plain_trace, with_last, Change, Stay, Memory, Execute, End, Job, Phase, Compatible, Execution, AllIn, Plant, within_job, within_stretch, Scoping}
 use Rattle.prem_sound.proofs.Prelude.{lines_with, within_scope, scope_with, scope_by, scope_at, lines_charged, charge_with, Charges, charges_by, own_charge, did_charge, job_with}
 use Rattle.prem_sound.proofs.Prelude.{job_charged, stretch_with, stretch_charged, line_cost, roomy_of, crowded_of, Scope, charge_of, Strand, ends, runs, calls, dids_along, none_begins}
 use Rattle.prem_sound.proofs.Prelude.{one_begins, begins_along, scoping_of, GoesTo, IsWithinInterval, IsStrand, last_change, calls_begun, scope_due, ChargedFrom, StrandsAreCharged}
-use Rattle.prem_sound.proofs.Prelude.{lines_of_did, lines_of_dids, cost_of_dids, Begun, begun_with, begun_by, change_due, call_at, Script, ◌≡◌, ℕ, suc, ◌+◌, ◌*◌, ◌<◌, ◌≤◌, refl, ap, ◌∙◌}
-use Rattle.prem_sound.proofs.Prelude.{sym, subst, arith, true, false, Some, None, Option, List, [], ◌∷◌, ◌++◌, length, slice_index_or, ⊎_elim, add-mul, cases_lt, length-append}
-use Rattle.prem_sound.proofs.Prelude.{filter-append, sum_by-cons, All}
+use Rattle.prem_sound.proofs.Prelude.{lines_of_did, lines_of_dids, cost_of_dids, Begun, begun_with, begun_by, change_due, call_at, Script, add-mul, cases_lt, length-append, filter-append}
+use Rattle.prem_sound.proofs.Prelude.{sum_by-cons, All}
 use Rattle.prem_isa.specs.declared.effect.Phase.TheVariants.{Memory as MemoryPhase}
 use Rattle.prem_sound.proofs.CallRuns.{begins_call, calls_after, none_did}
 use Rattle.prem_sound.proofs.Ends.{not_running, behind_end}

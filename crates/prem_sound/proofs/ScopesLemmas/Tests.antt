@@ -1,7 +1,9 @@
 -- Conditions on strands as tests that are computed.
+use Rattle.std.proofs.Common.{◌≡◌, ℕ, ◌+◌, leb, refl, true, false, Bool, List, [], ◌∷◌}
+use Rattle.std.specs.Prelude.{All, ◌&&◌}
 use Rattle.prem_sound.proofs.Prelude.{is_predictable, Did, Change, Stay, Memory, Execute, End, Job, Phase, Compatible, Execution, is_in, AllIn, Plant, within_job, within_stretch, charge_of}
-use Rattle.prem_sound.proofs.Prelude.{Strand, ends, runs, calls, GoesTo, IsWithinInterval, IsStrand, last_change, calls_begun, scope_due, ChargedFrom, lines_of_dids, Script, ◌≡◌, ℕ, ◌+◌}
-use Rattle.prem_sound.proofs.Prelude.{leb, refl, true, false, Bool, List, [], ◌∷◌, and_parts, leb-true, All-nil, All-cons, All, ◌&&◌}
+use Rattle.prem_sound.proofs.Prelude.{Strand, ends, runs, calls, GoesTo, IsWithinInterval, IsStrand, last_change, calls_begun, scope_due, ChargedFrom, lines_of_dids, Script, and_parts}
+use Rattle.prem_sound.proofs.Prelude.{leb-true, All-nil, All-cons}
 use Rattle.prem_isa.specs.declared.effect.Phase.TheVariants.{Memory as MemoryPhase}
 
 abbrev all_inside : List ℕ → List ℕ → Bool

@@ -1,8 +1,8 @@
 -- What a task's run on its own is charged in all, instruction by instruction.
+use Rattle.std.proofs.Common.{◌≡◌, ℕ, zero, suc, ◌+◌, ◌-◌, ◌*◌, ◌<◌, ◌≤◌, refl, ap, ◌∙◌, sym, subst, arith, ltb, true, false, Some, None, Option, ◌⊎◌, inl, inr, ⊎_elim}
 use Rattle.prem_sound.proofs.Prelude.{TaskRun, PlainState, Did, moved_by, after_change, is_running, plain_did, plain_step, plain_steps, plain_run, Change, Stay, Memory, Execute, End, Job}
-use Rattle.prem_sound.proofs.Prelude.{Plant, within_job, Charges, did_charge, job_with, job_charged, charge_due, all_charged, IsCharged, ChargesSumUp, begun_by, Script, call_at, ◌≡◌, ℕ}
-use Rattle.prem_sound.proofs.Prelude.{zero, suc, ◌+◌, ◌-◌, ◌*◌, ◌<◌, ◌≤◌, refl, ap, ◌∙◌, sym, subst, arith, ltb, true, false, Some, None, Option, ◌⊎◌, inl, inr, ⊎_elim, add-mul, and_parts}
-use Rattle.prem_sound.proofs.Prelude.{cases_Bool, cases_lt, ltb-true, is_none}
+use Rattle.prem_sound.proofs.Prelude.{Plant, within_job, Charges, did_charge, job_with, job_charged, charge_due, all_charged, IsCharged, ChargesSumUp, begun_by, Script, call_at, add-mul}
+use Rattle.prem_sound.proofs.Prelude.{and_parts, cases_Bool, cases_lt, ltb-true, is_none}
 use Rattle.prem_sound.proofs.CallRuns.{ended_before, none_did}
 use Rattle.prem_sound.proofs.Ends.{not_running, behind_end, ended_most}
 use Rattle.prem_sound.proofs.ScopesLemmas.ChargeRuns.{last_charge}

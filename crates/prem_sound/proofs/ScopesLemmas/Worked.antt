@@ -1,7 +1,7 @@
 -- The worked image of a marked call, parted into scopes: its job takes 795 cycles at most, where its accesses alone give 975.
+use Rattle.std.proofs.Common.{◌≡◌, ℕ, zero, suc, ◌+◌, ◌*◌, ◌≤◌, refl, ap, ◌∙◌, sym, subst, arith, true, [], ◌∷◌, ◌++◌, append-nil, length, take, drop}
 use Rattle.prem_sound.proofs.Prelude.{bytes_in, marked, plant, is_finished, run_of, plain_start, plain_run, plain_steps, plain_trace, to_front, lru, one_pass, IsScoped, charges_by}
-use Rattle.prem_sound.proofs.Prelude.{all_charged, IsCharged, Scope, charge_of, Strand, ends, runs, calls, dids_along, scoping_of, ChargedFrom, Script, call_at, ◌≡◌, ℕ, zero, suc, ◌+◌, ◌*◌}
-use Rattle.prem_sound.proofs.Prelude.{◌≤◌, refl, ap, ◌∙◌, sym, subst, arith, true, [], ◌∷◌, ◌++◌, append-nil, length, take, drop, take-append-drop}
+use Rattle.prem_sound.proofs.Prelude.{all_charged, IsCharged, Scope, charge_of, Strand, ends, runs, calls, dids_along, scoping_of, ChargedFrom, Script, call_at, take-append-drop}
 use Rattle.prem_sound.proofs.Finishing.{scripts_finish_by_jobs}
 use Rattle.prem_sound.proofs.ScopesLemmas.StrandRuns.{strands_are_charged}
 use Rattle.prem_sound.proofs.ScopesLemmas.Tests.{strand_test, strand_by, charged_test, charged_by}

@@ -1,9 +1,9 @@
 -- What a task's run on its own has done of its calls, instruction by instruction.
+use Rattle.std.proofs.Common.{◌≡◌, ℕ, zero, suc, ◌+◌, refl, ap, ◌∙◌, sym, subst, arith, cond, true, false, Bool, Some, None, Option, List, [], ◌∷◌, ◌++◌}
 use Rattle.prem_sound.proofs.Prelude.{is_predictable, act_lawful, fetch, phase_after, OnDone, EffectLawful, IsLawful, TaskRun, PlainState, Did, did_of, did_with, did_fetched, next_input}
 use Rattle.prem_sound.proofs.Prelude.{trap_at, moved_by, after_change, after_outcome, outcome_of, is_running, plain_did, plain_step, plain_steps, plain_run, Cause, Change, Stay, Memory}
 use Rattle.prem_sound.proofs.Prelude.{Execute, End, Job, Effect, Outcome, Trap, Done, Phase, Compatible, Execution, Instr, AllIn, Plant, lines_of_did, lines_of_dids, Begun, steps_after}
-use Rattle.prem_sound.proofs.Prelude.{begun_after, begun_with, begun_by, Call, IsCovered, Opens, IsStep, Script, call_of, IsScript, ◌≡◌, ℕ, zero, suc, ◌+◌, refl, ap, ◌∙◌, sym, subst, arith}
-use Rattle.prem_sound.proofs.Prelude.{cond, true, false, Bool, Some, None, Option, List, [], ◌∷◌, ◌++◌, Result, Ok, Err}
+use Rattle.prem_sound.proofs.Prelude.{begun_after, begun_with, begun_by, Call, IsCovered, Opens, IsStep, Script, call_of, IsScript, Result, Ok, Err}
 use Rattle.prem_isa.specs.declared.effect.Phase.TheVariants.{Memory as MemoryPhase}
 use Rattle.prem_sound.proofs.ScriptLemmas.Residency.{lines_of_dids-last, covered_more}
 

@@ -1,12 +1,13 @@
 -- A run whose instructions conform has a script, and stays with its own bytes.
+use Rattle.std.proofs.Common.{◌≡◌, ℕ, zero, suc, ◌+◌, ◌-◌, ◌%◌, ◌<◌, ◌≤◌, refl, ap, ◌∙◌, sym, subst, arith, cond, eqb, leb, ltb, true, false, Bool, Some, None, Option, List, [], ◌∷◌, ◌++◌}
+use Rattle.std.proofs.Common.{append_assoc, length, get_or, IfSome, ⊎_elim}
+use Rattle.std.specs.Prelude.{All, Result, Ok, Err, is_none, ◌&&◌}
 use Rattle.prem_sound.proofs.Prelude.{is_predictable, AllOwn, LoadsOwn, IsOwn, IsOwnOutcome, Setup, act_fits, plain_fits, fetch_fits, plain_run-add, plain_trace-add, plain_stays, act, fetch}
 use Rattle.prem_sound.proofs.Prelude.{accesses, goes, word_into, OnDone, EffectFits, AccessMatches, Fits, TaskRun, PlainState, Did, did_of, did_with, did_fetched, next_input, with_last}
 use Rattle.prem_sound.proofs.Prelude.{outcome_of, is_running, plain_did, plain_start, plain_steps, plain_run, plain_trace, Access, Loads, Cause, Effect, Outcome, Trap, Done, Phase, Stored}
 use Rattle.prem_sound.proofs.Prelude.{Instr, HaveRoom, Plant, Target, takes_nothing, IsOwnDid, begun_behind, KeepsCalls, due_behind, ConformingRunsHaveScripts, AtMark, KeepsMarks}
 use Rattle.prem_sound.proofs.Prelude.{ConformingRunsKeepPromises, Begun, none_begun, begun_after, begun_with, begun_by, Call, no_call, call_at, call_of, IsStep, did_due, Script, due_with}
-use Rattle.prem_sound.proofs.Prelude.{due_by, Reading, Mark, number_at, ◌≡◌, ℕ, zero, suc, ◌+◌, ◌-◌, ◌%◌, ◌<◌, ◌≤◌, refl, ap, ◌∙◌, sym, subst, arith, cond, eqb, leb, ltb, true, false, Bool}
-use Rattle.prem_sound.proofs.Prelude.{Some, None, Option, List, [], ◌∷◌, ◌++◌, append_assoc, length, get_or, IfSome, ⊎_elim, cases_lt, cond_both, le-ltb, length-append, All, Result, Ok, Err}
-use Rattle.prem_sound.proofs.Prelude.{is_none, ◌&&◌}
+use Rattle.prem_sound.proofs.Prelude.{due_by, Reading, Mark, number_at, cases_lt, cond_both, le-ltb, length-append}
 use Rattle.prem_isa.specs.Alu.{plus, load_size, loaded}
 use Rattle.prem_isa.specs.declared.effect.Cause.TheVariants.{Align, Outside}
 use Rattle.prem_isa.specs.declared.instr.Instr.TheVariants.{Lui, Auipc, Jal, Jalr, Branch, Load, Store, OpImm, Op, MulDiv, Fence, Ecall, Ebreak, PmMem, PmExec, PmEnd, PmDone, PmIn, PmOut}

@@ -1,9 +1,9 @@
 -- The pieces of a run keep its calls.
+use Rattle.std.proofs.Common.{◌≡◌, ℕ, ◌+◌, ◌-◌, ◌*◌, ◌≤◌, refl, ap, ◌∙◌, sym, subst, arith, true, false, None, List, [], ◌∷◌, ◌++◌, append_assoc, append-nil, length, get_or, IfSome, suc}
 use Rattle.prem_sound.proofs.Prelude.{is_predictable, cost_of, TaskRun, Did, plain_run, Loads, Change, Stay, Memory, Execute, End, Job, Phase, Compatible, Execution, AllIn, Plant}
 use Rattle.prem_sound.proofs.Prelude.{begun_behind, KeepsCalls, GoesOrDone, IsStretch, GoesOrEnds, PiecesJoin, StretchesKeep, MemoryBegins, CallsKeep, AtMark, KeepsMarks, NoMark, MarksJoin}
 use Rattle.prem_sound.proofs.Prelude.{MarksRest, due_behind, DuesJoin, CallsAreDueBefore, lines_of_did, lines_of_dids, cost_of_dids, Begun, steps_after, begun_after, Call, call_at, call_of}
-use Rattle.prem_sound.proofs.Prelude.{Opens, StoresNothing, IsStep, Script, did_due, Reading, Mark, ◌≡◌, ℕ, ◌+◌, ◌-◌, ◌*◌, ◌≤◌, refl, ap, ◌∙◌, sym, subst, arith, true, false, None, List, []}
-use Rattle.prem_sound.proofs.Prelude.{◌∷◌, ◌++◌, append_assoc, append-nil, length, get_or, IfSome, suc, All-head, All-tail, sum_by-append, sum_by-cons, All}
+use Rattle.prem_sound.proofs.Prelude.{Opens, StoresNothing, IsStep, Script, did_due, Reading, Mark, All-head, All-tail, sum_by-append, sum_by-cons, All}
 use Rattle.prem_isa.specs.declared.effect.Phase.TheVariants.{Memory as MemoryPhase}
 use Rattle.prem_sound.proofs.Paces.{cost-last}
 use Rattle.prem_sound.proofs.ScriptLemmas.Residency.{lines_of_dids-append}

@@ -1,7 +1,7 @@
 -- Lines that were touched one after another since some moment, whatever the cache held before it.
+use Rattle.std.proofs.Common.{◌≡◌, ℕ, ◌<◌, refl, ap, ◌∙◌, sym, subst, cond, true, false, Bool, List, [], ◌∷◌, ◌++◌, append_assoc, append-nil, length}
 use Rattle.prem_sound.proofs.Prelude.{Did, all_append, length-caches_after, is_in, AllIn, OrderRule, order_of, cache_after, caches_after, cache_misses, HaveRoom, IsCacheFullAfter}
-use Rattle.prem_sound.proofs.Prelude.{lines_of_did, lines_of_dids, IsCovered, ◌≡◌, ℕ, ◌<◌, refl, ap, ◌∙◌, sym, subst, cond, true, false, Bool, List, [], ◌∷◌, ◌++◌, append_assoc, append-nil}
-use Rattle.prem_sound.proofs.Prelude.{length}
+use Rattle.prem_sound.proofs.Prelude.{lines_of_did, lines_of_dids, IsCovered}
 use Rattle.std.specs.List.{concat}
 
 -- ---- lists of touches

@@ -1,9 +1,11 @@
 -- Whether instructions conform, as a test that is computed.
+use Rattle.std.proofs.Common.{◌≡◌, ℕ, ◌+◌, ◌*◌, ◌/◌, ◌%◌, ◌<◌, ◌≤◌, refl, ap, ◌∙◌, sym, subst, arith, cond, eqb, leb, true, false, Bool, Some, None, Option, List, [], ◌∷◌, ◌++◌, append-nil}
+use Rattle.std.proofs.Common.{length, IfSome, ⊎_elim}
+use Rattle.std.specs.Prelude.{All, ◌&&◌}
 use Rattle.prem_sound.proofs.Prelude.{is_predictable, AllOwn, IsFree, Setup, cost_of, Did, Access, Loads, Stores, Change, Stay, Memory, Execute, End, Job, Phase, Compatible, Execution}
 use Rattle.prem_sound.proofs.Prelude.{in_head, in_other, is_in, AllIn, AreOnce, of_set, one_pass, HaveRoom, Plant, IsOwnDid, KeepsCalls, lines_of_did, lines_of_dids, cost_of_dids, Begun}
-use Rattle.prem_sound.proofs.Prelude.{begun_after, Call, call_of, IsCovered, Opens, StoresNothing, IsStep, Script, ◌≡◌, ℕ, ◌+◌, ◌*◌, ◌/◌, ◌%◌, ◌<◌, ◌≤◌, refl, ap, ◌∙◌, sym, subst, arith}
-use Rattle.prem_sound.proofs.Prelude.{cond, eqb, leb, true, false, Bool, Some, None, Option, List, [], ◌∷◌, ◌++◌, append-nil, length, IfSome, ⊎_elim, mod-eq_of_lt, and_parts, cases_eq}
-use Rattle.prem_sound.proofs.Prelude.{eqb-true, eq-eqb, ne_eqb, le-leb, leb-true, All-nil, All-cons, All, ◌&&◌}
+use Rattle.prem_sound.proofs.Prelude.{begun_after, Call, call_of, IsCovered, Opens, StoresNothing, IsStep, Script, mod-eq_of_lt, and_parts, cases_eq, eqb-true, eq-eqb, ne_eqb, le-leb}
+use Rattle.prem_sound.proofs.Prelude.{leb-true, All-nil, All-cons}
 use Rattle.prem_isa.specs.declared.effect.AccessKind.{AccessKind}
 use Rattle.prem_isa.specs.declared.effect.Phase.TheVariants.{Memory as MemoryPhase}
 

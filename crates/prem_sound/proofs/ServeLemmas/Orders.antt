@@ -1,8 +1,8 @@
 -- The requests that find room are some of those that were asked, in order.
+use Rattle.std.proofs.Common.{◌≡◌, ℕ, zero, suc, ◌+◌, ◌<◌, ◌≤◌, refl, ap, ◌∙◌, sym, subst, arith, cond, eqb, true, false, Bool, List, [], ◌∷◌, ◌++◌, length, get_or, ⊎_elim}
 use Rattle.prem_sound.proofs.Prelude.{run_of-now, is_over, cycles_of, memory_of, run_of, Setup, MachineState, start_of, GatesState, gate_at, is_full, after_arrival, Request, ReplacementRule}
-use Rattle.prem_sound.proofs.Prelude.{found_room, coming_requests, queued_of, AreAmong, among_none, among_skip, among_take, asked_before, RoomIsFoundInOrder, ◌≡◌, ℕ, zero, suc, ◌+◌, ◌<◌}
-use Rattle.prem_sound.proofs.Prelude.{◌≤◌, refl, ap, ◌∙◌, sym, subst, arith, cond, eqb, true, false, Bool, List, [], ◌∷◌, ◌++◌, length, get_or, ⊎_elim, cases_eq, cases_lt, eq-eqb, ne_eqb}
-use Rattle.prem_sound.proofs.Prelude.{lt-ltb, le-ltb, filter}
+use Rattle.prem_sound.proofs.Prelude.{found_room, coming_requests, queued_of, AreAmong, among_none, among_skip, among_take, asked_before, RoomIsFoundInOrder, cases_eq, cases_lt, eq-eqb}
+use Rattle.prem_sound.proofs.Prelude.{ne_eqb, lt-ltb, le-ltb, filter}
 use Rattle.std.specs.List.Sorted.{IsNonDecreasingBy}
 
 pub among_append : (xs ys us vs : List Request) → AreAmong xs ys → AreAmong us vs → AreAmong (xs ++ us) (ys ++ vs)

@@ -1,8 +1,8 @@
 -- What is known of all requests that wait or are carried.
+use Rattle.std.proofs.Common.{◌≡◌, ℕ, zero, suc, ◌<◌, refl, sym, subst, eqb, leb, Some, None, Option, true, false, Bool, List, [], ◌∷◌, ◌++◌, length, map, drop, IfSome, ⊎_elim}
 use Rattle.prem_sound.proofs.Prelude.{cycle_gates, want_of, Arrivals, arrived, arrivals, arrivals_at, bus_at, cycle_of, is_over, step_of, cycles_of, Setup, MachineState, start_of}
 use Rattle.prem_sound.proofs.Prelude.{startable_is, GateState, GatesState, Turned, gate_at, no_gate, with_queue, with_gates, is_full, queued, after_arrival, startable, taken, carries, wants}
-use Rattle.prem_sound.proofs.Prelude.{starts, bus_free, bus_with, bus_turn, IsStart, Carried, CoreWant, No, New, Held, Window, Request, DeviceRecord, ReplacementRule, ◌≡◌, ℕ, zero, suc, ◌<◌}
-use Rattle.prem_sound.proofs.Prelude.{refl, sym, subst, eqb, leb, Some, None, Option, true, false, Bool, List, [], ◌∷◌, ◌++◌, length, map, drop, IfSome, ⊎_elim, cases_eq, cond_both}
+use Rattle.prem_sound.proofs.Prelude.{starts, bus_free, bus_with, bus_turn, IsStart, Carried, CoreWant, No, New, Held, Window, Request, DeviceRecord, ReplacementRule, cases_eq, cond_both}
 use Rattle.prem_sound.proofs.Prelude.{get_or-set_same, get_or-set_other, All-nil, All-push, All-head, All-tail, All, slice_set, slice_get}
 use Rattle.prem_gate.specs.Gates.{ends, goes_on}
 use Rattle.prem_sound.proofs.ServeLemmas.Queues.{queue_at, there_or_full, head_of, start_queues}

@@ -1,11 +1,12 @@
 -- A queued request is transferred in order, once, or still waits.
+use Rattle.std.proofs.Common.{◌≡◌, ◌≢◌, ℕ, zero, suc, ◌+◌, ◌<◌, ◌≤◌, refl, ap, ◌∙◌, sym, cond, eqb, leb, Some, None, Option, true, false, Bool, List, [], ◌∷◌, ◌++◌, append_assoc, append-nil}
+use Rattle.std.proofs.Common.{length, map, drop, ⊎_elim}
 use Rattle.prem_sound.proofs.Prelude.{settle_keeps, cycle_gates, want_of, Arrivals, arrived, arrivals, arrivals_at, bus_at, core_at, joined, with_now, next_cycle, cycle_with, cycle_of}
 use Rattle.prem_sound.proofs.Prelude.{is_over, step_of, cycles_of, memory_of, Setup, MachineState, start_of, startable_is, GateState, GatesState, Turned, gate_at, no_gate, with_gates}
 use Rattle.prem_sound.proofs.Prelude.{is_full, queued, after_arrival, startable, without_head, taken, transfer_of, carries, wants, starts, bus_free, bus_with, bus_turn, gates_of, IsStart}
 use Rattle.prem_sound.proofs.Prelude.{Carried, CoreWant, No, New, Held, Transfer, Window, Request, DeviceRecord, with_last, ReplacementRule, found_room, coming_requests, queued_of, asked_of}
-use Rattle.prem_sound.proofs.Prelude.{transferred_of, carried_of, held_of, RequestsAreHeld, ◌≡◌, ◌≢◌, ℕ, zero, suc, ◌+◌, ◌<◌, ◌≤◌, refl, ap, ◌∙◌, sym, cond, eqb, leb, Some, None, Option}
-use Rattle.prem_sound.proofs.Prelude.{true, false, Bool, List, [], ◌∷◌, ◌++◌, append_assoc, append-nil, length, map, drop, ⊎_elim, cases_eq, cases_lt, cond_both, eq-eqb, ne_eqb}
-use Rattle.prem_sound.proofs.Prelude.{get_or-set_same, get_or-set_other, get_or_past, map-append, filter-append, filter, slice_get, slice_set, is_some}
+use Rattle.prem_sound.proofs.Prelude.{transferred_of, carried_of, held_of, RequestsAreHeld, cases_eq, cases_lt, cond_both, eq-eqb, ne_eqb, get_or-set_same, get_or-set_other, get_or_past}
+use Rattle.prem_sound.proofs.Prelude.{map-append, filter-append, filter, slice_get, slice_set, is_some}
 use Rattle.prem_gate.specs.Gates.{ends, goes_on}
 use Rattle.prem_plant.specs.declared.plant.Device.{Device}
 

@@ -1,7 +1,7 @@
 -- The first words of the devices' lines in memory: apart from each other, and under no resident line.
+use Rattle.std.proofs.Common.{◌≡◌, ℕ, ◌+◌, ◌*◌, ◌/◌, ◌%◌, ◌<◌, ◌≤◌, ap, ◌∙◌, sym, subst, arith, Some, true, false, List, length, map, ⊎_elim}
 use Rattle.prem_sound.proofs.Prelude.{IsLine, IsKept, kept_plant, no_device, device_of, Setup, area_of, IsPlaced, absent_view, CacheState, is_resident, view_of, AreApart, Plant, number_at}
-use Rattle.prem_sound.proofs.Prelude.{◌≡◌, ℕ, ◌+◌, ◌*◌, ◌/◌, ◌%◌, ◌<◌, ◌≤◌, ap, ◌∙◌, sym, subst, arith, Some, true, false, List, length, map, ⊎_elim, cases_Bool, mod-mul-add, div-mul-add}
-use Rattle.prem_sound.proofs.Prelude.{div-add-mod', mul-le, slice_get-map, slice_get-get_or, All, slice_get, slice_index, option_map}
+use Rattle.prem_sound.proofs.Prelude.{cases_Bool, mod-mul-add, div-mul-add, div-add-mod', mul-le, slice_get-map, slice_get-get_or, All, slice_get, slice_index, option_map}
 
 -- the first byte of a line of a device
 abbrev pub slot : Setup → ℕ → ℕ → ℕ

@@ -1,10 +1,10 @@
 -- Over a run each word that a get has is that of the last put before it.
+use Rattle.std.proofs.Common.{◌≡◌, ℕ, zero, suc, ◌+◌, ◌<◌, ◌∙◌, sym, subst, Bool, List, [], ◌∷◌, ◌++◌, length, map}
 use Rattle.prem_sound.proofs.Prelude.{move_cases, cycle_work, arrivals_gates, run_stands, AllAt, runs_of, keeps_of, Moves as Scheduled, moves as scheduled, Stands, Issuing, issuing}
 use Rattle.prem_sound.proofs.Prelude.{bus_stands, want_of, attempted, moved, CoreMove, Passes, Issues, Arrivals, arrivals_at, bus_at, with_memory, move_at, cycle_with, cycle_of, is_over}
 use Rattle.prem_sound.proofs.Prelude.{step_of, task_after, issued_by, cycles_of, memory_of, run_of, issued_of, AreOwn, IsRunnable, Setup, record_of, Work, MachineState, task_in, start_of}
 use Rattle.prem_sound.proofs.Prelude.{Turned, Transfer, Request, area_of, TaskRun, with_last, empty_cache, view_of, ReplacementRule, IsRule, AreApart, TaskJobs, GetsLastPuts, PutWords}
-use Rattle.prem_sound.proofs.Prelude.{AreasAreZero, WordsAreLastPuts, number_at-agrees, number_at, ◌≡◌, ℕ, zero, suc, ◌+◌, ◌<◌, ◌∙◌, sym, subst, Bool, List, [], ◌∷◌, ◌++◌, length, map}
-use Rattle.prem_sound.proofs.Prelude.{cond_both, slice_index, slice_set}
+use Rattle.prem_sound.proofs.Prelude.{AreasAreZero, WordsAreLastPuts, number_at-agrees, number_at, cond_both, slice_index, slice_set}
 use Rattle.prem_cycle.proofs.RunsLemmas.PositionLemmas.Starts.{empty_view}
 use Rattle.prem_sound.proofs.ServeLemmas.Puts.{HoldAll, arrivals_all, cycles_all, start_all}
 use Rattle.prem_sound.proofs.ServeLemmas.Queues.{cycle_transfers}

@@ -1,10 +1,12 @@
 -- The word at a line of a device is that of the last put there.
+use Rattle.std.proofs.Common.{◌≡◌, ℕ, ◌+◌, ◌*◌, ◌/◌, ◌^◌, ◌<◌, ◌≤◌, refl, ap, ◌∙◌, sym, subst, arith, eqb, leb, Some, None, Option, true, false, Bool, List, [], ◌∷◌, ◌++◌, length, map}
+use Rattle.std.proofs.Common.{IfSome, ◌⊎◌, inl, inr, ⊎_elim}
+use Rattle.std.specs.Prelude.{All, slice_index, ◌&&◌}
 use Rattle.prem_sound.proofs.Prelude.{IsLine, AreGates, stored_out, IsKept, kept_plant, Issue, AllOwn, device_of, IsFree, Setup, Task, Work, startable_is, GateState, GatesState, Turned}
 use Rattle.prem_sound.proofs.Prelude.{gate_at, no_gate, startable, without_head, taken, slot_of, memory_after, value_of, transfer_of, carries, wants, starts, bus_free, bus_with, bus_turn}
 use Rattle.prem_sound.proofs.Prelude.{IsStart, Carried, CoreWant, No, New, Held, Transfer, Window, Request, area_of, IsPlaced, with_last, Stored, apart_bytes, CacheState, view_of, bytes_of}
-use Rattle.prem_sound.proofs.Prelude.{spliced, AreApart, word_by, word_after, GetsLastPuts, number_at-agrees, number_at-put_number, number_at, put_number, ◌≡◌, ℕ, ◌+◌, ◌*◌, ◌/◌, ◌^◌, ◌<◌}
-use Rattle.prem_sound.proofs.Prelude.{◌≤◌, refl, ap, ◌∙◌, sym, subst, arith, eqb, leb, Some, None, Option, true, false, Bool, List, [], ◌∷◌, ◌++◌, length, map, IfSome, ◌⊎◌, inl, inr, ⊎_elim}
-use Rattle.prem_sound.proofs.Prelude.{cases_eq, cond_both, eq-eqb, ne_eqb, get_or-set_same, All, slice_index, ◌&&◌}
+use Rattle.prem_sound.proofs.Prelude.{spliced, AreApart, word_by, word_after, GetsLastPuts, number_at-agrees, number_at-put_number, number_at, put_number, cases_eq, cond_both, eq-eqb}
+use Rattle.prem_sound.proofs.Prelude.{ne_eqb, get_or-set_same}
 use Rattle.prem_gate.specs.Gates.{ends, goes_on}
 use Rattle.prem_lru.proofs.Words.{word_view}
 use Rattle.prem_sound.proofs.ServeLemmas.Puts.{HoldAll, head_all}

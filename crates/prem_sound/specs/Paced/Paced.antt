@@ -1,6 +1,6 @@
 -- What the jobs of a task's run on its own take, and its stretches, which are the instructions of one compatible interval.
-use Rattle.prem_sound.specs.Prelude.{due_of, TaskRun, Did, plain_did, plain_run, Change, Stay, Memory, Execute, End, Job, Phase, Compatible, Execution, Plant, ◌≡◌, ℕ, zero, suc, ◌+◌, ◌≤◌}
-use Rattle.prem_sound.specs.Prelude.{Option, Some, None}
+use Rattle.std.specs.Prelude.{◌≡◌, ℕ, zero, suc, ◌+◌, ◌≤◌, Option, Some, None}
+use Rattle.prem_sound.specs.Prelude.{due_of, TaskRun, Did, plain_did, plain_run, Change, Stay, Memory, Execute, End, Job, Phase, Compatible, Execution, Plant}
 use Rattle.prem_isa.specs.declared.effect.Phase.TheVariants.{Memory as MemoryPhase}
 use Rattle.prem_sound.specs.Script.Script.{Begun, begun_by, did_due, Script, call_at}
 

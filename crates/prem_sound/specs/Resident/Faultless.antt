@@ -1,6 +1,7 @@
 -- Where tasks do what their scripts say, nothing in a run is a fault.
+use Rattle.std.specs.Prelude.{◌≡◌, ℕ, ◌<◌, Bool, List, length}
 use Rattle.prem_sound.specs.Prelude.{run_of, AreOwn, IsRunnable, Setup, MachineState, rule_in, Request, TaskRun, ReplacementRule, IsRule, MovesBy, OrderRule, CacheMissesOnce}
-use Rattle.prem_sound.specs.Prelude.{IsCacheFullAfter, passes_of, ◌≡◌, ℕ, ◌<◌, Bool, List, length}
+use Rattle.prem_sound.specs.Prelude.{IsCacheFullAfter, passes_of}
 use Rattle.prem_sound.specs.Script.Script.{Script, IsScript}
 
 -- a rule of replacement whose lines move by an order of their own: each line misses once, and so many passes bring all in

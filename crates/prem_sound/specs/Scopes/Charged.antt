@@ -1,6 +1,6 @@
 -- The scopes of a task's run on its own, and what its jobs and stretches take at most with them.
-use Rattle.prem_sound.specs.Prelude.{cost_of, TaskRun, Did, plain_did, plain_run, Access, Change, Stay, Memory, Execute, End, Job, Phase, Compatible, Execution, AllIn, Plant, ◌≡◌, ℕ, zero}
-use Rattle.prem_sound.specs.Prelude.{suc, ◌+◌, ◌*◌, ◌/◌, ◌%◌, ◌≤◌, List, [], Option, Some, None, length, if◌then◌else◌}
+use Rattle.std.specs.Prelude.{◌≡◌, ℕ, zero, suc, ◌+◌, ◌*◌, ◌/◌, ◌%◌, ◌≤◌, List, [], Option, Some, None, length, if◌then◌else◌}
+use Rattle.prem_sound.specs.Prelude.{cost_of, TaskRun, Did, plain_did, plain_run, Access, Change, Stay, Memory, Execute, End, Job, Phase, Compatible, Execution, AllIn, Plant}
 use Rattle.prem_isa.specs.declared.effect.Phase.TheVariants.{Memory as MemoryPhase}
 use Rattle.prem_sound.specs.Paced.Paced.{within_job, within_stretch}
 use Rattle.prem_sound.specs.Scopes.Lines.{line_cost, is_roomy, roomy_of, crowded_of}

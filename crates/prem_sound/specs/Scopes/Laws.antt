@@ -1,6 +1,6 @@
 -- What is known of scopes: how often they miss, and what they are charged.
-use Rattle.prem_sound.specs.Prelude.{due_of, cost_of, TaskRun, Did, plain_run, AllIn, OrderRule, CacheMissesOnce, cache_misses, order_rule_of, Plant, ◌≡◌, ℕ, ◌+◌, ◌*◌, ◌/◌, ◌<◌, ◌≤◌, not}
-use Rattle.prem_sound.specs.Prelude.{None, List, length, filter, sum, sum_by}
+use Rattle.std.specs.Prelude.{◌≡◌, ℕ, ◌+◌, ◌*◌, ◌/◌, ◌<◌, ◌≤◌, not, None, List, length, filter, sum, sum_by}
+use Rattle.prem_sound.specs.Prelude.{due_of, cost_of, TaskRun, Did, plain_run, AllIn, OrderRule, CacheMissesOnce, cache_misses, order_rule_of, Plant}
 use Rattle.prem_cycle.specs.Issue.{LineTouch, owed_by}
 use Rattle.prem_plant.specs.declared.plant.Replacement.{Replacement}
 use Rattle.prem_sound.specs.Paced.Paced.{IsPaced}

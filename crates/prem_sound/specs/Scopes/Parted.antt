@@ -1,5 +1,6 @@
 -- Instructions without marked calls, parted into scopes that are charged at most so much: what code has to show, part by part.
-use Rattle.prem_sound.specs.Prelude.{is_predictable, due_of, Did, Stay, Memory, Job, Compatible, AllIn, Plant, ◌≡◌, ℕ, ◌+◌, ◌*◌, ◌≤◌, true, All, List, [], ◌∷◌, ◌++◌, sum_by}
+use Rattle.std.specs.Prelude.{◌≡◌, ℕ, ◌+◌, ◌*◌, ◌≤◌, true, All, List, [], ◌∷◌, ◌++◌, sum_by}
+use Rattle.prem_sound.specs.Prelude.{is_predictable, due_of, Did, Stay, Memory, Job, Compatible, AllIn, Plant}
 use Rattle.prem_sound.specs.Paced.Paced.{within_stretch}
 use Rattle.prem_sound.specs.Scopes.Scopes.{Scope, KeepsToLines, charge_of, dids_of, charges_of, single}
 use Rattle.prem_sound.specs.Scopes.Strands.{Strand, ends, runs, calls, dids_along, IsStrand, last_change, scope_due, joined, begun_along, charges_along, EndsNoJob, StretchesWithin}

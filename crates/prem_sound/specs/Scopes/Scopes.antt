@@ -1,5 +1,6 @@
 -- Scopes: executed instructions of one compatible interval, with the lines that they may touch, and what they are charged.
-use Rattle.prem_sound.specs.Prelude.{Did, AllIn, Plant, ℕ, ◌+◌, ◌*◌, List, [], ◌∷◌, ◌++◌}
+use Rattle.std.specs.Prelude.{ℕ, ◌+◌, ◌*◌, List, [], ◌∷◌, ◌++◌}
+use Rattle.prem_sound.specs.Prelude.{Did, AllIn, Plant}
 use Rattle.prem_sound.specs.Scopes.Lines.{line_cost, most_misses}
 use Rattle.prem_sound.specs.Script.Script.{lines_of_did, lines_of_dids, cost_of_dids}
 

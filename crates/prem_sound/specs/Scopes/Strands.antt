@@ -1,6 +1,6 @@
 -- A run parted into scopes and marked calls, one after another, and what they take at most.
-use Rattle.prem_sound.specs.Prelude.{is_predictable, TaskRun, Did, plain_start, plain_run, plain_trace, Change, Stay, Memory, Execute, End, Job, Compatible, Plant, ◌≡◌, ℕ, ◌+◌, ◌≤◌, true}
-use Rattle.prem_sound.specs.Prelude.{List, [], ◌∷◌, ◌++◌, Option, Some, None, All, length, slice_index_or}
+use Rattle.std.specs.Prelude.{◌≡◌, ℕ, ◌+◌, ◌≤◌, true, List, [], ◌∷◌, ◌++◌, Option, Some, None, All, length, slice_index_or}
+use Rattle.prem_sound.specs.Prelude.{is_predictable, TaskRun, Did, plain_start, plain_run, plain_trace, Change, Stay, Memory, Execute, End, Job, Compatible, Plant}
 use Rattle.prem_sound.specs.Paced.Paced.{within_job, within_stretch}
 use Rattle.prem_sound.specs.Scopes.Charged.{Scoping, IsScoped, charges_by, IsCharged}
 use Rattle.prem_sound.specs.Scopes.Scopes.{Scope, KeepsToLines, charge_of}

@@ -1,7 +1,7 @@
 -- What the code of a task has to show: a list of all instructions that its run executes, and that they conform to its calls.
+use Rattle.std.specs.Prelude.{◌≡◌, ℕ, zero, suc, ◌+◌, ◌*◌, ◌/◌, ◌≤◌, Bool, true, false, List, [], ◌∷◌, ◌++◌, None, All, IfSome, length, slice_index_or, ◌-◌, ◌<◌}
 use Rattle.prem_sound.specs.Prelude.{is_predictable, IsFree, AllOwn, StaysOwn, Setup, TaskRun, Did, plain_start, plain_run, plain_trace, RunFits, Loads, Change, Stay, Memory, Execute, End}
-use Rattle.prem_sound.specs.Prelude.{Job, Compatible, Execution, AllIn, HaveRoom, Plant, ◌≡◌, ℕ, zero, suc, ◌+◌, ◌*◌, ◌/◌, ◌≤◌, Bool, true, false, List, [], ◌∷◌, ◌++◌, None, All, IfSome}
-use Rattle.prem_sound.specs.Prelude.{length, slice_index_or, ◌-◌, ◌<◌}
+use Rattle.prem_sound.specs.Prelude.{Job, Compatible, Execution, AllIn, HaveRoom, Plant}
 use Rattle.prem_isa.specs.declared.effect.Phase.TheVariants.{Memory as MemoryPhase}
 use Rattle.prem_isa.specs.declared.instr.Instr.{Instr}
 use Rattle.prem_isa.specs.declared.instr.Instr.TheVariants.{Load}

@@ -1,7 +1,7 @@
 -- The predictable intervals of a task's run on its own: which lines they touch, what they cost, and when all is brought in.
+use Rattle.std.specs.Prelude.{◌≡◌, ℕ, zero, suc, ◌+◌, ◌-◌, ◌*◌, ◌/◌, ◌≤◌, true, List, [], ◌∷◌, ◌++◌, Option, Some, None, IfSome, length, sum_by, slice_index_or}
 use Rattle.prem_sound.specs.Prelude.{is_predictable, due_of, cost_of, TaskRun, Did, plain_did, plain_run, Access, Loads, Change, Stay, Memory, Execute, End, Job, Phase, Compatible}
-use Rattle.prem_sound.specs.Prelude.{Execution, AllIn, ArePasses, HaveRoom, Plant, ◌≡◌, ℕ, zero, suc, ◌+◌, ◌-◌, ◌*◌, ◌/◌, ◌≤◌, true, List, [], ◌∷◌, ◌++◌, Option, Some, None, IfSome, length}
-use Rattle.prem_sound.specs.Prelude.{sum_by, slice_index_or}
+use Rattle.prem_sound.specs.Prelude.{Execution, AllIn, ArePasses, HaveRoom, Plant}
 use Rattle.prem_isa.specs.declared.effect.Phase.TheVariants.{Memory as MemoryPhase}
 use Rattle.std.specs.List.{concat}
 

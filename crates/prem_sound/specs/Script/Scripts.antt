@@ -1,6 +1,6 @@
 -- The scripts of all tasks of a machine, and what their runs promise to give.
-use Rattle.prem_sound.specs.Prelude.{log_size, AreOwn, Setup, TaskRecord, TaskRun, Did, plain_did, plain_run, Memory, End, ◌≡◌, ℕ, zero, suc, ◌+◌, ◌-◌, ◌*◌, ◌<◌, max, Bool, true, List, []}
-use Rattle.prem_sound.specs.Prelude.{◌∷◌, Some, length, slice_index_or}
+use Rattle.std.specs.Prelude.{◌≡◌, ℕ, zero, suc, ◌+◌, ◌-◌, ◌*◌, ◌<◌, max, Bool, true, List, [], ◌∷◌, Some, length, slice_index_or}
+use Rattle.prem_sound.specs.Prelude.{log_size, AreOwn, Setup, TaskRecord, TaskRun, Did, plain_did, plain_run, Memory, End}
 use Rattle.prem_sound.specs.Script.Script.{begun_by, call_at, Script, IsScript}
 
 -- ---- what a run gives

@@ -1,7 +1,8 @@
 -- The requests of devices that find room in their queues, and the words that transfers put and get.
+use Rattle.std.specs.Prelude.{◌≡◌, ℕ, zero, suc, ◌+◌, ◌*◌, ◌^◌, ◌<◌, ◌==◌, ◌&&◌, All, Bool, true, false, List, [], ◌∷◌, ◌++◌, Option, Some, None, IfSome, length, map, filter, if◌then◌else◌}
+use Rattle.std.specs.Prelude.{slice_index, nat_lt}
 use Rattle.prem_sound.specs.Prelude.{is_over, cycles_of, memory_of, run_of, AreOwn, IsRunnable, device_of, Setup, MachineState, start_of, Request, area_of, TaskRun, ReplacementRule, IsRule}
-use Rattle.prem_sound.specs.Prelude.{AreApart, ◌≡◌, ℕ, zero, suc, ◌+◌, ◌*◌, ◌^◌, ◌<◌, ◌==◌, ◌&&◌, All, Bool, true, false, List, [], ◌∷◌, ◌++◌, Option, Some, None, IfSome, length, map}
-use Rattle.prem_sound.specs.Prelude.{filter, if◌then◌else◌, slice_index, nat_lt}
+use Rattle.prem_sound.specs.Prelude.{AreApart}
 use Rattle.prem_gate.specs.Gates.{GatesState, gate_at, is_full, after_arrival}
 use Rattle.prem_gate.specs.declared.bus.Carried.{Carried}
 use Rattle.prem_gate.specs.declared.bus.Transfer.{Transfer}

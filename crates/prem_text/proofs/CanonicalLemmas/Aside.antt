@@ -1,11 +1,12 @@
 -- Trees that are the same, places aside, have the same canonical tokens.
+use Rattle.std.proofs.Common.{◌≡◌, ℕ, ◌+◌, nat_lt, List, [], ◌∷◌, ◌++◌, Option, None, Some, refl, map}
 use Rattle.prem_text.proofs.Prelude.{Text, Expression, literal, variable, element, unary, binary, Statement, block, if_then, if_else, bounded_while, counting_for, assign, output, input}
 use Rattle.prem_text.proofs.Prelude.{call, Statements, no_statements, next_statement, Parameter, LocalVariable, RegionText, MarkText, ItemText, global_item, function_item, ProgramText}
 use Rattle.prem_text.proofs.Prelude.{infix_sign, prefix_sign, enclosed, expression_lexemes, more_arguments, argument_lexemes, target_lexemes, call_lexemes, while_lexemes, for_lexemes}
 use Rattle.prem_text.proofs.Prelude.{bound_lexemes, step_lexemes, tail_lexemes, if_lexemes, statement_lexemes, statements_lexemes, number_lexeme, declaration_lexemes, region_lexemes}
 use Rattle.prem_text.proofs.Prelude.{regions_lexemes, mark_lexemes, parameter_lexemes, more_parameters, parameters_lexemes, locals_lexemes, result_lexemes, item_lexemes, program_lexemes}
 use Rattle.prem_text.proofs.Prelude.{unplaced_expression, unplaced_statement, unplaced_statements, unplaced_parameter, unplaced_local, unplaced_region, unplaced_mark, unplaced_item}
-use Rattle.prem_text.proofs.Prelude.{unplaced, level_of, name, word, mark, ◌≡◌, ℕ, ◌+◌, nat_lt, List, [], ◌∷◌, ◌++◌, Option, None, Some, refl, map, option_map}
+use Rattle.prem_text.proofs.Prelude.{unplaced, level_of, name, word, mark, option_map}
 use Rattle.prem_text.specs.declared.lexing.token.token.Mark.TheVariants as m
 use Rattle.prem_text.specs.declared.lexing.token.token.Word.TheVariants as w
 

@@ -1,7 +1,8 @@
 -- Trees with their canonical spellings.
+use Rattle.std.proofs.Common.{◌≡◌, ℕ, pos, negsuc, true, false, [], ◌∷◌, None, Some, codes, refl}
 use Rattle.prem_text.proofs.Prelude.{Expression, literal, variable, element, unary, binary, Statement, block, if_then, if_else, bounded_while, counting_for, assign, output, input, call}
 use Rattle.prem_text.proofs.Prelude.{Statements, no_statements, next_statement, absent, one, many, global_item, function_item, ProgramText, Neg, Not, printed, nowhere, Add, Sub, Mul, Shl}
-use Rattle.prem_text.proofs.Prelude.{Eq, And, OrElse, AndAlso, Lt, Int, Unsigned, ◌≡◌, ℕ, pos, negsuc, true, false, [], ◌∷◌, None, Some, codes, refl}
+use Rattle.prem_text.proofs.Prelude.{Eq, And, OrElse, AndAlso, Lt, Int, Unsigned}
 use Rattle.std.specs.Fmt.{digits}
 use Rattle.prem_syntax.specs.declared.tree.Ty.TheVariants as ty
 

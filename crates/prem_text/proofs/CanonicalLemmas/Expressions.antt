@@ -1,7 +1,8 @@
 -- An expression has a phrase whose tokens are its canonical ones.
+use Rattle.std.proofs.Common.{◌≡◌, ◌≤◌, ◌+◌, ℕ, Bool, true, false, List, [], ◌∷◌, ◌++◌, Some, refl, ap, arith, nat_lt}
 use Rattle.prem_text.proofs.Prelude.{Expression, literal, variable, element, unary, binary, Place, UnOp, Neg, infix_sign, prefix_sign, enclosed, expression_lexemes, unplaced_expression}
 use Rattle.prem_text.proofs.Prelude.{infix_of, prefix_of, level_of, Phrase, of_literal, of_name, of_element, of_bracket, of_prefix, of_infix, spelled, tree, level, Binds, nowhere, place_at}
-use Rattle.prem_text.proofs.Prelude.{Lexeme, name, mark, Seen, BinOp, Add, ◌≡◌, ◌≤◌, ◌+◌, ℕ, Bool, true, false, List, [], ◌∷◌, ◌++◌, Some, refl, ap, arith, nat_lt, nat_tests}
+use Rattle.prem_text.proofs.Prelude.{Lexeme, name, mark, Seen, BinOp, Add, nat_tests}
 use Rattle.prem_text.proofs.CanonicalLemmas.Parts.{Are, none, next, cut, glue, single}
 use Rattle.prem_text.proofs.GrammarLemmas.Steps.{level_small}
 use Rattle.prem_text.specs.declared.lexing.token.token.Mark.TheVariants as m

@@ -1,8 +1,9 @@
 -- The canonical tokens of an expression have the fewest parentheses.
+use Rattle.std.proofs.Common.{◌≡◌, ◌≤◌, ◌+◌, ℕ, nat_lt, Bool, true, false, List, [], ◌∷◌, ◌++◌, Some, refl, ap, sym, subst, ◌∙◌, arith, map}
 use Rattle.prem_text.proofs.Prelude.{Expression, literal, variable, element, unary, binary, UnOp, Neg, Flip, Not, infix_sign, prefix_sign, enclosed, expression_lexemes, lexemes_of}
 use Rattle.prem_text.proofs.Prelude.{parentheses, HasFewest, unplaced_expression, infix_of, prefix_of, level_of, Phrase, of_literal, of_name, of_element, of_bracket, of_prefix, of_infix}
 use Rattle.prem_text.proofs.Prelude.{spelled, tree, level, Binds, IsExpression, nowhere, Lexeme, name, mark, Seen, Mark, BinOp, Add, Sub, Mul, Div, Rem, Shl, Shr, Lt, Le, Gt, Ge, Eq, Ne}
-use Rattle.prem_text.proofs.Prelude.{And, Xor, Or, AndAlso, OrElse, ◌≡◌, ◌≤◌, ◌+◌, ℕ, nat_lt, Bool, true, false, List, [], ◌∷◌, ◌++◌, Some, refl, ap, sym, subst, ◌∙◌, arith, map, nat_tests}
+use Rattle.prem_text.proofs.Prelude.{And, Xor, Or, AndAlso, OrElse, nat_tests}
 use Rattle.prem_text.proofs.CanonicalLemmas.Aside.{expression_aside}
 use Rattle.prem_text.proofs.CanonicalLemmas.Expressions.{expression_spelling}
 use Rattle.prem_text.proofs.CanonicalLemmas.Parts.{Are, none, next}

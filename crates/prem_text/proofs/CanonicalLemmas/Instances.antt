@@ -1,7 +1,7 @@
 -- Where the laws' premises hold.
+use Rattle.std.proofs.Common.{◌≤◌, ℕ, [], ◌∷◌, None, codes, refl, arith}
 use Rattle.prem_text.proofs.Prelude.{literal, binary, output, no_statements, next_statement, function_item, ProgramText, Place, IsOfText, IsTextOf, ReadBack, printed, Phrase, of_literal}
 use Rattle.prem_text.proofs.Prelude.{of_bracket, of_infix, nowhere, literal_word, used_word, is_unused, reserved_word, longest_mark, first_token, start, lex, tokens_of, reads, Add, Sub, Int}
-use Rattle.prem_text.proofs.Prelude.{◌≤◌, ℕ, [], ◌∷◌, None, codes, refl, arith}
 use Rattle.prem_text.proofs.CanonicalLemmas.Examples.{lit, outs}
 use Rattle.prem_text.proofs.CanonicalLemmas.Fewest.{fewest_parentheses}
 use Rattle.prem_text.proofs.CanonicalLemmas.Read.{canonical_divided, canonical_read}

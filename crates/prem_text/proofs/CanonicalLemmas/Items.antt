@@ -1,4 +1,6 @@
 -- A program has a phrase whose tokens are its canonical ones.
+use Rattle.std.proofs.Common.{append-nil, ◌≡◌, ℕ, ℤ, pos, negsuc, neg_ℤ, int_lt, unsigned_abs, nat_lt, Bool, true, false, if◌then◌else◌, List, [], ◌∷◌, ◌++◌, Option, None, Some, refl, ap}
+use Rattle.std.proofs.Common.{sym, ◌∙◌, arith, append_assoc, map}
 use Rattle.prem_text.proofs.Prelude.{Text, Expression, Parameter, LocalVariable, RegionText, MarkText, InitialValue, absent, one, many, GlobalVariable, FunctionText, ItemText, global_item}
 use Rattle.prem_text.proofs.Prelude.{function_item, ProgramText, Ty, number_lexeme, constant_lexemes, expression_lexemes, statements_lexemes, type_lexemes, declaration_lexemes}
 use Rattle.prem_text.proofs.Prelude.{length_lexemes, more_constants, initial_lexemes, global_lexemes, region_lexemes, regions_lexemes, mark_lexemes, range_lexemes, parameter_lexemes}
@@ -13,13 +15,11 @@ use Rattle.prem_text.proofs.Prelude.{of_parameters, is_void_form, begins_void, A
 use Rattle.prem_text.proofs.Prelude.{parameters_tree, LocalPhrase, AreLocals, local_tokens, local_trees, ResultPhrase, IsResult, result_tokens, result_tree, FunctionPhrase, IsFunction}
 use Rattle.prem_text.proofs.Prelude.{function_tokens, function_tree, ItemPhrase, of_global, of_function, IsItem, item_tokens, item_tree, AreItems, items_tokens, items_tree, ProgramPhrase}
 use Rattle.prem_text.proofs.Prelude.{IsProgram, program_tokens, program_tree, nowhere, left_parenthesis, right_parenthesis, left_brace, right_brace, left_bracket, right_bracket, semicolon}
-use Rattle.prem_text.proofs.Prelude.{comma, equal_sign, a_name, a_literal, the_return, the_void, the_range, the_predictable, the_region, the_end, name, word, mark, end_of_text, Seen, ◌≡◌, ℕ}
-use Rattle.prem_text.proofs.Prelude.{ℤ, pos, negsuc, neg_ℤ, int_lt, unsigned_abs, nat_lt, Bool, true, false, if◌then◌else◌, List, [], ◌∷◌, ◌++◌, Option, None, Some, refl, ap, sym, ◌∙◌}
-use Rattle.prem_text.proofs.Prelude.{arith, append_assoc, map, nat_tests, option_map}
+use Rattle.prem_text.proofs.Prelude.{comma, equal_sign, a_name, a_literal, the_return, the_void, the_range, the_predictable, the_region, the_end, name, word, mark, end_of_text, Seen}
+use Rattle.prem_text.proofs.Prelude.{nat_tests, option_map}
 use Rattle.prem_text.proofs.CanonicalLemmas.Parts.{Are, none, cut, glue, all_fit, row, name_is, value_is, regroup}
 use Rattle.prem_text.proofs.CanonicalLemmas.Shaped.{is_void, BeginsShaped, IsShapedInitial, IsShapedItem, AreShapedItems}
 use Rattle.prem_text.proofs.CanonicalLemmas.Statements.{whole, all_said}
-use Rattle.std.proofs.Common.{append-nil}
 use Rattle.prem_syntax.specs.declared.tree.Ty.TheVariants as ty
 use Rattle.prem_text.specs.declared.lexing.token.token.Mark.TheVariants as m
 use Rattle.prem_text.specs.declared.lexing.token.token.Word.TheVariants as w

@@ -1,4 +1,5 @@
 -- The canonical tokens of a text's tree can be spelled, and it has the shape that they need.
+use Rattle.std.proofs.Common.{◌≡◌, ◌≤◌, ℕ, ℤ, unsigned_abs, Bool, true, false, List, [], ◌∷◌, ◌++◌, Option, None, Some, refl, sym, subst, ◌∙◌, map}
 use Rattle.prem_text.proofs.Prelude.{Parameter, Ty, constant_lexemes, expression_lexemes, statements_lexemes, type_lexemes, declaration_lexemes, length_lexemes, more_constants}
 use Rattle.prem_text.proofs.Prelude.{constants_lexemes, initial_lexemes, global_lexemes, regions_lexemes, mark_lexemes, range_lexemes, parameter_lexemes, more_parameters, parameters_lexemes}
 use Rattle.prem_text.proofs.Prelude.{locals_lexemes, result_lexemes, function_lexemes, item_lexemes, program_lexemes, unplaced_parameter, unplaced_item, unplaced, spelled, tree, name_at}
@@ -9,8 +10,7 @@ use Rattle.prem_text.proofs.Prelude.{range_tokens, range_tree, ParameterPhrase, 
 use Rattle.prem_text.proofs.Prelude.{is_void_form, ArePartedParameters, AreParameters, parted_parameter_tokens, parted_parameter_trees, parameters_tokens, parameters_tree, LocalPhrase}
 use Rattle.prem_text.proofs.Prelude.{AreLocals, local_tokens, local_trees, ResultPhrase, result_tokens, result_tree, FunctionPhrase, IsFunction, function_tokens, function_tree, ItemPhrase}
 use Rattle.prem_text.proofs.Prelude.{of_global, of_function, IsItem, item_tokens, item_tree, AreItems, items_tokens, items_tree, left_parenthesis, right_parenthesis, comma, a_name}
-use Rattle.prem_text.proofs.Prelude.{a_literal, the_region, value_at, all_written, name, mark, Seen, ◌≡◌, ◌≤◌, ℕ, ℤ, unsigned_abs, Bool, true, false, List, [], ◌∷◌, ◌++◌, Option, None, Some}
-use Rattle.prem_text.proofs.Prelude.{refl, sym, subst, ◌∙◌, map}
+use Rattle.prem_text.proofs.Prelude.{a_literal, the_region, value_at, all_written, name, mark, Seen}
 use Rattle.prem_text.proofs.CanonicalLemmas.Sayable.{AreSayable, both, AreSaid, front, back, name_said, value_bound, value_said, constant_said, abs_negated, Each, each_last}
 use Rattle.prem_text.proofs.CanonicalLemmas.Shaped.{is_void, BeginsShaped, IsShapedInitial, IsShapedItem, AreShapedItems}
 use Rattle.prem_text.proofs.CanonicalLemmas.StatementsSaid.{expression_said, all_shaped, all_statements_said}

@@ -1,6 +1,6 @@
 -- Tokens at places whose lexemes stand in parts.
-use Rattle.prem_text.proofs.Prelude.{Text, Place, IsRow, name_or_none, name_at, Slot, fits, text_of, value_of, text_at, value_at, place_at, Lexeme, Seen, ◌≡◌, ℕ, zero, suc, Bool, true}
-use Rattle.prem_text.proofs.Prelude.{false, List, [], ◌∷◌, ◌++◌, Option, None, refl, ap, sym, ◌∙◌, append_assoc, map, ◌&&◌, and_parts}
+use Rattle.std.proofs.Common.{◌≡◌, ℕ, zero, suc, Bool, true, false, List, [], ◌∷◌, ◌++◌, Option, None, refl, ap, sym, ◌∙◌, append_assoc, map, ◌&&◌}
+use Rattle.prem_text.proofs.Prelude.{Text, Place, IsRow, name_or_none, name_at, Slot, fits, text_of, value_of, text_at, value_at, place_at, Lexeme, Seen, and_parts}
 
 -- tokens are these lexemes, each at some place
 pub data Are : List Lexeme → List Seen → Type 0 where

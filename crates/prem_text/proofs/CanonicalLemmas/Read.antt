@@ -1,9 +1,9 @@
 -- The canonical spelling of a text's tree is read back.
+use Rattle.std.proofs.Common.{◌≡◌, ◌≤◌, ◌<◌, nat_lt, Bool, true, false, arith, ℕ, suc, List, [], ◌∷◌, ◌++◌, length, Result, Ok, Err, refl, ap, sym, subst, ◌∙◌, map}
 use Rattle.prem_text.proofs.Prelude.{ProgramText, program_lexemes, IsOfText, lexemes_of, AreCanonical, IsSpelled, IsTextOf, Fits, IsTooLong, too_many_bytes, too_many_tokens, ReadBack}
 use Rattle.prem_text.proofs.Prelude.{gives_back, is_too_long, lexeme_bytes, spelling_of, printed, unplaced, outside, finished, stages, ProgramPhrase, IsProgram, program_tokens, program_tree}
 use Rattle.prem_text.proofs.Prelude.{Lexeme, end_of_text, Seen, tokens_of, Divides, AreTokens, too_long, too_many, place_behind, AreSpellings, placed, reads, IsNoProgram, not_divided}
-use Rattle.prem_text.proofs.Prelude.{unexpected, FrontFail, TooLong, ◌≡◌, ◌≤◌, ◌<◌, nat_lt, Bool, true, false, arith, ℕ, suc, List, [], ◌∷◌, ◌++◌, length, Result, Ok, Err, refl, ap, sym}
-use Rattle.prem_text.proofs.Prelude.{subst, ◌∙◌, map, nat_tests}
+use Rattle.prem_text.proofs.Prelude.{unexpected, FrontFail, TooLong, nat_tests}
 use Rattle.prem_text.proofs.CanonicalLemmas.Aside.{program_aside}
 use Rattle.prem_text.proofs.CanonicalLemmas.Items.{program_said}
 use Rattle.prem_text.proofs.CanonicalLemmas.ItemsSaid.{items_said, items_shaped}

@@ -1,8 +1,8 @@
 -- Tokens of a text can be spelled, and so can the canonical ones of its tree.
+use Rattle.std.proofs.Common.{◌≡◌, ◌≤◌, ℕ, ℤ, pos, neg_ℤ, zero, suc, nat_lt, int_lt, unsigned_abs, Bool, true, false, if◌then◌else◌, List, [], ◌∷◌, ◌++◌, Some, refl, sym, subst, arith}
 use Rattle.prem_text.proofs.Prelude.{number_lexeme, constant_lexemes, IsRow, name_or_none, name_at, Slot, a_name, is_name, fits, text_of, value_of, value_at, Lexeme, name, number, word}
 use Rattle.prem_text.proofs.Prelude.{mark, end_of_text, Seen, Divides, up_to, gap, token, AreTokens, Spells, as_name, as_word, as_literal, as_mark, Literal, as_int, as_large, as_suffixed}
-use Rattle.prem_text.proofs.Prelude.{Int, Unsigned, ◌≡◌, ◌≤◌, ℕ, ℤ, pos, neg_ℤ, zero, suc, nat_lt, int_lt, unsigned_abs, Bool, true, false, if◌then◌else◌, List, [], ◌∷◌, ◌++◌, Some, refl}
-use Rattle.prem_text.proofs.Prelude.{sym, subst, arith, nat_tests}
+use Rattle.prem_text.proofs.Prelude.{Int, Unsigned, nat_tests}
 use Rattle.prem_text.proofs.GrammarLemmas.Taken.{nth}
 
 -- ---- lexemes

@@ -1,6 +1,7 @@
 -- What the tree of a text is like, its tokens aside.
+use Rattle.std.proofs.Common.{◌≡◌, Bool, true, false, List, [], ◌∷◌}
 use Rattle.prem_text.proofs.Prelude.{Statement, block, if_then, if_else, bounded_while, counting_for, Statements, no_statements, next_statement, Parameter, InitialValue, many, ItemText}
-use Rattle.prem_text.proofs.Prelude.{global_item, function_item, ProgramText, Ty, ◌≡◌, Bool, true, false, List, [], ◌∷◌}
+use Rattle.prem_text.proofs.Prelude.{global_item, function_item, ProgramText, Ty}
 use Rattle.prem_syntax.specs.declared.tree.Ty.TheVariants as ty
 
 -- an `else` behind a statement would belong to it

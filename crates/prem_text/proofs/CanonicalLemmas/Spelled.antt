@@ -1,8 +1,8 @@
 -- Lexemes are spelled by their bytes.
+use Rattle.std.proofs.Common.{◌≡◌, ◌≤◌, ◌<◌, ℕ, zero, suc, ◌+◌, ◌*◌, ◌^◌, ◌==◌, true, false, List, [], ◌∷◌, length, get_or, refl, ap, sym, subst, ◌∙◌, arith, add-zero, mul-one, map}
 use Rattle.prem_text.proofs.Prelude.{word_bytes, mark_bytes, lexeme_bytes, spelling_of, digit_value, marks, Lexeme, name, number, word, mark, end_of_text, is_digit, AreSpellings, StandsIn}
 use Rattle.prem_text.proofs.Prelude.{at_front, further, every, value_in, Digits, just_zero, decimal as decimal_digits, as_int, as_suffixed, Reserved, without_use, Spells, as_word}
-use Rattle.prem_text.proofs.Prelude.{as_literal, as_mark, Mark, Word, Kind, Int, Unsigned, ◌≡◌, ◌≤◌, ◌<◌, ℕ, zero, suc, ◌+◌, ◌*◌, ◌^◌, ◌==◌, true, false, List, [], ◌∷◌, length, get_or, refl}
-use Rattle.prem_text.proofs.Prelude.{ap, sym, subst, ◌∙◌, arith, add-zero, mul-one, map, and_from, nat_tests}
+use Rattle.prem_text.proofs.Prelude.{as_literal, as_mark, Mark, Word, Kind, Int, Unsigned, and_from, nat_tests}
 use Rattle.prem_text.proofs.CanonicalLemmas.Sayable.{AreSayable, IsSayable}
 use Rattle.prem_text.proofs.SpellingLemmas.Literals.{shifted}
 use Rattle.prem_text.specs.Spelling.Spellings.{used}

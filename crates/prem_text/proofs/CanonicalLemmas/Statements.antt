@@ -1,4 +1,5 @@
 -- A statement has a phrase whose tokens are its canonical ones.
+use Rattle.std.proofs.Common.{append-nil, ◌≡◌, Bool, true, false, List, [], ◌∷◌, ◌++◌, Option, None, Some, refl, ap, sym, ◌∙◌, arith, map, ◌&&◌}
 use Rattle.prem_text.proofs.Prelude.{Text, Expression, Statement, block, if_then, if_else, bounded_while, counting_for, assign, output, input, call, Statements, no_statements}
 use Rattle.prem_text.proofs.Prelude.{next_statement, expression_lexemes, more_arguments, argument_lexemes, target_lexemes, call_lexemes, comparison_sign, while_lexemes, for_lexemes}
 use Rattle.prem_text.proofs.Prelude.{bound_lexemes, step_lexemes, tail_lexemes, if_lexemes, statement_lexemes, statements_lexemes, unplaced_expression, unplaced_statement}
@@ -7,12 +8,10 @@ use Rattle.prem_text.proofs.Prelude.{the_else, is_comparison, place_at, listed, 
 use Rattle.prem_text.proofs.Prelude.{StatementPhrase, of_block, of_if, of_else, of_for, of_while, of_output, of_call, of_input, of_call_to, of_assign, StatementPhrases, no_phrases}
 use Rattle.prem_text.proofs.Prelude.{next_phrase, if_head, for_head, for_bound, while_head, out_head, statement_tail, call_head, call_to_head, input_row, step_slots, ends_open, AreParted}
 use Rattle.prem_text.proofs.Prelude.{AreArguments, IsTarget, IsStatement, AreStatements, parted_tokens, argument_tokens, target_tokens, written, all_written, parted_trees, argument_trees}
-use Rattle.prem_text.proofs.Prelude.{target_text, target_index, meant, all_meant, name, word, mark, Seen, ◌≡◌, Bool, true, false, List, [], ◌∷◌, ◌++◌, Option, None, Some, refl, ap, sym, ◌∙◌}
-use Rattle.prem_text.proofs.Prelude.{arith, map, ◌&&◌, option_map}
+use Rattle.prem_text.proofs.Prelude.{target_text, target_index, meant, all_meant, name, word, mark, Seen, option_map}
 use Rattle.prem_text.proofs.CanonicalLemmas.Expressions.{Spelling, expression_spelling}
 use Rattle.prem_text.proofs.CanonicalLemmas.Parts.{Are, none, next, cut, glue, single, row, name_is, value_is, regroup}
 use Rattle.prem_text.proofs.CanonicalLemmas.Shaped.{leaves_open, IsShaped, AreShaped}
-use Rattle.std.proofs.Common.{append-nil}
 use Rattle.prem_text.specs.declared.lexing.token.token.Mark.TheVariants as m
 use Rattle.prem_text.specs.declared.lexing.token.token.Word.TheVariants as w
 

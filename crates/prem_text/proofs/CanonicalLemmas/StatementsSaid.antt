@@ -1,4 +1,5 @@
 -- The canonical tokens of an expression or statement of a text can be spelled, and it has the shape that they need.
+use Rattle.std.proofs.Common.{◌≡◌, ℕ, ◌+◌, nat_lt, Bool, true, false, List, [], ◌∷◌, ◌++◌, Option, None, Some, refl, ◌∙◌, arith}
 use Rattle.prem_text.proofs.Prelude.{Text, Expression, literal, binary, Place, number_lexeme, infix_sign, enclosed, expression_lexemes, more_arguments, argument_lexemes, target_lexemes}
 use Rattle.prem_text.proofs.Prelude.{call_lexemes, while_lexemes, for_lexemes, bound_lexemes, step_lexemes, tail_lexemes, if_lexemes, statement_lexemes, statements_lexemes}
 use Rattle.prem_text.proofs.Prelude.{unplaced_statement, unplaced_statements, level_of, Phrase, of_literal, of_name, of_element, of_bracket, of_prefix, of_infix, spelled, tree, IsRow}
@@ -6,8 +7,7 @@ use Rattle.prem_text.proofs.Prelude.{name_at, value_at, place_at, side, changed,
 use Rattle.prem_text.proofs.Prelude.{to_element, Direction, Parted, Arguments, no_arguments, arguments, StatementPhrase, of_block, of_if, of_else, of_for, of_while, of_output, of_call}
 use Rattle.prem_text.proofs.Prelude.{of_input, of_call_to, of_assign, of_change, of_count, StatementPhrases, no_phrases, next_phrase, for_head, for_bound, call_head, call_to_head, input_row}
 use Rattle.prem_text.proofs.Prelude.{step_slots, ends_open, IsStatement, AreStatements, parted_tokens, argument_tokens, target_tokens, written, all_written, parted_trees, argument_trees}
-use Rattle.prem_text.proofs.Prelude.{target_at, target_text, target_index, change_op, loop_names, meant, all_meant, Lexeme, name, word, mark, Seen, BinOp, Int, ◌≡◌, ℕ, ◌+◌, nat_lt, Bool}
-use Rattle.prem_text.proofs.Prelude.{true, false, List, [], ◌∷◌, ◌++◌, Option, None, Some, refl, ◌∙◌, arith}
+use Rattle.prem_text.proofs.Prelude.{target_at, target_text, target_index, change_op, loop_names, meant, all_meant, Lexeme, name, word, mark, Seen, BinOp, Int}
 use Rattle.prem_text.proofs.CanonicalLemmas.Sayable.{IsSayable, AreSayable, both, AreSaid, front, back, name_said, value_said, number_said, Each, each_last}
 use Rattle.prem_text.proofs.CanonicalLemmas.Shaped.{leaves_open, IsShaped, AreShaped}
 use Rattle.prem_text.specs.declared.lexing.token.token.Mark.TheVariants as m

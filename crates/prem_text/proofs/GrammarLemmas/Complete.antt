@@ -1,8 +1,8 @@
 -- What the grammar spells is read.
+use Rattle.std.proofs.Common.{◌≡◌, ◌≤◌, ℕ, List, Option, None, Some, true, false, refl, ap, ◌∙◌, arith, nat_le, nat_lt}
 use Rattle.prem_text.proofs.Prelude.{Text, Expression, literal, variable, element, unary, binary, Place, UnOp, infix_of, level_of, Open, bottom, under, right_of, bracket, index_of, bind}
 use Rattle.prem_text.proofs.Prelude.{State, wants, named, has, goes, operand, operator, closing, behind, move, Phrase, of_literal, of_name, of_element, of_bracket, of_prefix, of_infix}
-use Rattle.prem_text.proofs.Prelude.{spelled, tree, level, Binds, Lexeme, name, number, word, mark, end_of_text, Seen, Mark, BinOp, ◌≡◌, ◌≤◌, ℕ, List, Option, None, Some, true, false, refl}
-use Rattle.prem_text.proofs.Prelude.{ap, ◌∙◌, arith, nat_le, nat_lt, nat_tests}
+use Rattle.prem_text.proofs.Prelude.{spelled, tree, level, Binds, Lexeme, name, number, word, mark, end_of_text, Seen, Mark, BinOp, nat_tests}
 use Rattle.prem_text.proofs.GrammarLemmas.Steps.{Goes, done, more, goes_append, Loose, AtMost, Waits, Same, level_small, waits_more, waits_sign, prefix_moves, bind_stays}
 use Rattle.prem_text.specs.declared.lexing.token.token.Mark.TheVariants as m
 

@@ -1,8 +1,8 @@
 -- The readers of expressions and of statements against the grammar.
+use Rattle.std.proofs.Common.{◌≡◌, ◌≤◌, ℕ, List, [], ◌∷◌, ◌++◌, Option, None, Some, Bool, true, false, refl, ap, sym, subst, ◌∙◌, append_assoc}
 use Rattle.prem_text.proofs.Prelude.{Expression, Statement, Place, bottom, State, wants, has, Move, goes, ends, stops, move, moves, is_closer, body_begins, turns, limits, ends_body, Phrase}
 use Rattle.prem_text.proofs.Prelude.{spelled, tree, level, IsExpression, is_else, in_body, Point, between, Turn, on, leaves, wrong, turn, is_past, StatementPhrases, no_phrases}
-use Rattle.prem_text.proofs.Prelude.{AreStatements, all_written, all_meant, all_past, Lexeme, word, mark, Seen, ◌≡◌, ◌≤◌, ℕ, List, [], ◌∷◌, ◌++◌, Option, None, Some, Bool, true, false, refl}
-use Rattle.prem_text.proofs.Prelude.{ap, sym, subst, ◌∙◌, append_assoc, append-nil}
+use Rattle.prem_text.proofs.Prelude.{AreStatements, all_written, all_meant, all_past, Lexeme, word, mark, Seen, append-nil}
 use Rattle.prem_text.proofs.GrammarLemmas.Complete.{reads_phrase}
 use Rattle.prem_text.proofs.GrammarLemmas.Fill.{fill_point}
 use Rattle.prem_text.proofs.GrammarLemmas.Nested.{Frame, reads_statements}

@@ -1,11 +1,12 @@
 -- Whatever the reader of statements has taken begins the statements of a body.
+use Rattle.std.proofs.Common.{◌≡◌, ◌≤◌, ℕ, List, [], ◌∷◌, ◌++◌, true, refl, ap, sym, subst, ◌∙◌, append_assoc, arith}
 use Rattle.prem_text.proofs.Prelude.{Place, Phrase, of_literal, spelled, IsExpression, IsRow, left_bracket, plus_sign, minus_sign, minus_minus, minus_equal, the_if, the_for, the_bounded}
 use Rattle.prem_text.proofs.Prelude.{the_in, the_out, the_return, the_void, the_range, the_predictable, the_region, the_int, the_short, the_signed, the_char, the_unsigned, the_end, Slot}
 use Rattle.prem_text.proofs.Prelude.{left_parenthesis, right_parenthesis, left_brace, right_brace, right_bracket, semicolon, comma, equal_sign, plus_plus, plus_equal, comparison, step_sign}
 use Rattle.prem_text.proofs.Prelude.{a_name, a_literal, the_else, the_while, fits, Around, Use, for_output, for_high, Row, Point, least_of, rest_of_step, by_one_step, step_slots, to_name}
 use Rattle.prem_text.proofs.Prelude.{to_element, up, arguments, StatementPhrase, of_block, of_if, of_else, of_for, of_while, of_output, of_call, of_call_to, of_assign, of_change, of_count}
 use Rattle.prem_text.proofs.Prelude.{StatementPhrases, no_phrases, for_head, for_bound, statement_tail, IsStatement, AreStatements, written, all_written, Lexeme, name, number, word, mark}
-use Rattle.prem_text.proofs.Prelude.{end_of_text, Seen, Int, ◌≡◌, ◌≤◌, ℕ, List, [], ◌∷◌, ◌++◌, true, refl, ap, sym, subst, ◌∙◌, append_assoc, arith, append-nil}
+use Rattle.prem_text.proofs.Prelude.{end_of_text, Seen, Int, append-nil}
 use Rattle.prem_text.proofs.GrammarLemmas.Sound.{begins_expression}
 use Rattle.prem_text.proofs.GrammarLemmas.Stand.{Opened, body_opened, block_opened, taken_opened, other_opened, while_opened, for_opened, RowIs, if_is, out_is, while_is, for_is, bound_is}
 use Rattle.prem_text.proofs.GrammarLemmas.Stand.{sign_is, step_is, last_is, UseIs, output_is, condition_is, turns_is, low_is, high_is, index_is, value_is, change_is, argument_is}

@@ -1,4 +1,5 @@
 -- Functions are read as the grammar says.
+use Rattle.std.proofs.Common.{◌≡◌, ◌+◌, ◌-◌, ℕ, ℤ, List, [], ◌∷◌, ◌++◌, Option, None, Some, Bool, true, false, refl, ap, sym, subst, ◌∙◌, append_assoc, arith}
 use Rattle.prem_text.proofs.Prelude.{Expression, no_statements, Parameter, LocalVariable, FunctionText, function_item, Place, bottom, State, wants, has, Move, goes, ends, stops, move}
 use Rattle.prem_text.proofs.Prelude.{no_type, an_item, a_parameter, a_local, range_low, range_high, Value, local_value, result_value, body_row, range_row, local_row, end_row, Stage, in_row}
 use Rattle.prem_text.proofs.Prelude.{in_type, behind_item, before_constant, behind_constant, before_parameter, on_parameter, behind_parameter, before_local, in_statements, in_value}
@@ -11,8 +12,7 @@ use Rattle.prem_text.proofs.Prelude.{AreParameters, parted_parameter_tokens, par
 use Rattle.prem_text.proofs.Prelude.{local_past, ResultPhrase, IsResult, result_tokens, result_tree, result_past, FunctionPhrase, IsFunction, of_function, item_tokens, item_past, Slot}
 use Rattle.prem_text.proofs.Prelude.{left_parenthesis, right_parenthesis, left_brace, right_brace, semicolon, comma, equal_sign, the_return, the_void, the_range, fits, place_at}
 use Rattle.prem_text.proofs.Prelude.{is_right_brace, is_semicolon, is_void, is_range, in_body, Point, Turn, on, turn, listed, StatementPhrases, AreStatements, all_written, all_meant}
-use Rattle.prem_text.proofs.Prelude.{all_past, Lexeme, name, number, word, mark, end_of_text, Seen, ◌≡◌, ◌+◌, ◌-◌, ℕ, ℤ, List, [], ◌∷◌, ◌++◌, Option, None, Some, Bool, true, false, refl, ap}
-use Rattle.prem_text.proofs.Prelude.{sym, subst, ◌∙◌, append_assoc, arith, append-nil}
+use Rattle.prem_text.proofs.Prelude.{all_past, Lexeme, name, number, word, mark, end_of_text, Seen, append-nil}
 use Rattle.prem_text.proofs.GrammarLemmas.Complete.{reads_phrase}
 use Rattle.prem_text.proofs.GrammarLemmas.Exact.{body_frame, body_left, no_else}
 use Rattle.prem_text.proofs.GrammarLemmas.ItemTaken.{Runs, rest, forth, runs_append, quietly, row_runs, row_from, one_runs, first_word, declaration_runs, constant_runs}

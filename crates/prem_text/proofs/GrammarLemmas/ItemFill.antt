@@ -1,10 +1,10 @@
 -- Whatever the reader of items has taken begins an item.
+use Rattle.std.proofs.Common.{◌⊎◌, ◌≡◌, inl, inr, List, [], ◌∷◌, ◌++◌, Option, None, Some, Bool, true, false, refl, ap, sym, subst, ◌∙◌, append_assoc, arith}
 use Rattle.prem_text.proofs.Prelude.{FunctionText, ItemText, Typing, Declared, Constant, Value, ItemRow, Stage, Phrase, spelled, IsExpression, IsRow, int_type, signed_char_type}
 use Rattle.prem_text.proofs.Prelude.{unsigned_type, Declaration, IsDeclaration, declaration_tokens, ConstantPhrase, IsConstant, InitialPhrase, no_initial, one_initial, many_initial}
 use Rattle.prem_text.proofs.Prelude.{IsInitial, initial_tokens, IsLength, length_tokens, MarkPhrase, region_tokens, IsMark, mark_tokens, ParameterPhrase, IsParameter, parameter_tokens}
 use Rattle.prem_text.proofs.Prelude.{PartedParameter, of_parameters, ItemPhrase, of_global, of_function, IsItem, item_tokens, left_parenthesis, right_parenthesis, left_brace, right_brace}
-use Rattle.prem_text.proofs.Prelude.{semicolon, comma, equal_sign, a_name, a_literal, the_int, the_char, the_end, StatementPhrases, no_phrases, AreStatements, all_written, Seen, ◌≡◌, inl}
-use Rattle.prem_text.proofs.Prelude.{inr, List, [], ◌∷◌, ◌++◌, Option, None, Some, Bool, true, false, refl, ap, sym, subst, ◌∙◌, append_assoc, arith, append-nil}
+use Rattle.prem_text.proofs.Prelude.{semicolon, comma, equal_sign, a_name, a_literal, the_int, the_char, the_end, StatementPhrases, no_phrases, AreStatements, all_written, Seen, append-nil}
 use Rattle.prem_text.proofs.GrammarLemmas.Fill.{samples, samples_fit, zero_phrase, zero_short, fill_point}
 use Rattle.prem_text.proofs.GrammarLemmas.ItemStand.{Fitting, Allowed, Parameters, parameters_are, Locals, locals_are, Whole, bodies_are, DeclaredIs, item_is, parameter_is, local_is}
 use Rattle.prem_text.proofs.GrammarLemmas.ItemStand.{TypingIs, no_typing, signed_typing, unsigned_typing, whole_typing, ConstantIs, low_is, high_is, only_is, next_is, ValueIs}
@@ -12,7 +12,6 @@ use Rattle.prem_text.proofs.GrammarLemmas.ItemStand.{local_value_is, result_valu
 use Rattle.prem_text.proofs.GrammarLemmas.ItemStand.{is_outside, is_marked, is_row, is_type, is_item, is_global, is_initial, is_constant, is_negative, is_behind, is_first, is_on}
 use Rattle.prem_text.proofs.GrammarLemmas.ItemStand.{is_parameter, is_local, is_statements, is_value, is_finished, no_void, one_more_local, more_region_tokens, more_are_regions}
 use Rattle.prem_text.proofs.GrammarLemmas.Sound.{begins_expression}
-use Rattle.std.proofs.Common.{◌⊎◌}
 
 -- tokens begin an item
 pub record ItemBegins (pre : List Seen) : Type 0 where

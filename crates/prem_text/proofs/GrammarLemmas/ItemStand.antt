@@ -1,4 +1,5 @@
 -- What the tokens of an item so far spell, wherever the reader of items stands.
+use Rattle.std.proofs.Common.{◌≡◌, ◌-◌, ℕ, ℤ, List, [], ◌∷◌, ◌++◌, Option, None, Some, Bool, true, false, refl, ap, sym, subst, ◌∙◌, append_assoc, arith}
 use Rattle.prem_text.proofs.Prelude.{Text, Expression, Statement, Parameter, LocalVariable, RegionText, absent, many, GlobalVariable, FunctionText, ItemText, global_item, function_item}
 use Rattle.prem_text.proofs.Prelude.{Place, bottom, State, wants, Move, goes, ends, stops, move, global_ends, global_or, constant_ends, Typing, no_type, after_signed, after_unsigned, a_type}
 use Rattle.prem_text.proofs.Prelude.{Declared, an_item, a_parameter, a_local, Constant, range_low, range_high, only_value, next_value, Value, local_value, result_value, ItemRow, mark_row}
@@ -15,8 +16,7 @@ use Rattle.prem_text.proofs.Prelude.{parameters_tree, LocalPhrase, AreLocals, lo
 use Rattle.prem_text.proofs.Prelude.{left_parenthesis, right_parenthesis, left_brace, right_brace, left_bracket, right_bracket, semicolon, comma, equal_sign, minus_sign, a_name, a_literal}
 use Rattle.prem_text.proofs.Prelude.{the_return, the_range, the_predictable, the_signed, the_unsigned, the_end, fits, place_at, is_left_parenthesis, is_right_parenthesis, is_left_bracket}
 use Rattle.prem_text.proofs.Prelude.{is_left_brace, is_right_brace, is_comma, is_semicolon, is_equal, is_return, is_void, is_range, is_predictable, is_region, is_end, in_body, Point, Turn}
-use Rattle.prem_text.proofs.Prelude.{on, leaves, wrong, turn, listed, StatementPhrases, no_phrases, AreStatements, all_written, all_meant, Lexeme, name, number, word, mark, Seen, ◌≡◌, ◌-◌}
-use Rattle.prem_text.proofs.Prelude.{ℕ, ℤ, List, [], ◌∷◌, ◌++◌, Option, None, Some, Bool, true, false, refl, ap, sym, subst, ◌∙◌, append_assoc, arith, append-nil}
+use Rattle.prem_text.proofs.Prelude.{on, leaves, wrong, turn, listed, StatementPhrases, no_phrases, AreStatements, all_written, all_meant, Lexeme, name, number, word, mark, Seen, append-nil}
 use Rattle.prem_text.proofs.GrammarLemmas.FunctionWhole.{opened_function, parameter_of, value_moves, value_step}
 use Rattle.prem_text.proofs.GrammarLemmas.ItemWhole.{mark_text, region_slots, region_in, region_ends, global_of}
 use Rattle.prem_text.proofs.GrammarLemmas.Sound.{StandsIn, wanting, at_bottom, Fine, move_fine}

@@ -1,11 +1,11 @@
 -- What the grammar of items spells is read, and each token past a limit is seen to be.
+use Rattle.std.proofs.Common.{◌≡◌, List, [], ◌∷◌, ◌++◌, Option, None, Some, Bool, true, false, refl, ap, sym, subst, ◌∙◌, append_assoc}
 use Rattle.prem_text.proofs.Prelude.{Text, Place, Ty, Typing, no_type, after_signed, after_unsigned, a_type, type_in, Declared, an_item, a_parameter, a_local, Constant, ItemRow, Stage}
 use Rattle.prem_text.proofs.Prelude.{in_row, in_type, before_constant, behind_constant, ahead, refused, declared, type_or_name, type_begins, constant_of, constant, row_ends, row_goes_on}
 use Rattle.prem_text.proofs.Prelude.{step, is_too_deep, IsRow, name_at, name_or_none, quiet, TypeForm, void_type, int_type, short_type, signed_char_type, unsigned_type, unsigned_int_type}
 use Rattle.prem_text.proofs.Prelude.{unsigned_short_type, unsigned_char_type, type_slots, type_of, Declaration, IsDeclaration, declaration_tokens, constant_slots, constant_value, Slot}
 use Rattle.prem_text.proofs.Prelude.{minus_sign, a_name, a_literal, the_void, the_int, the_short, the_signed, the_char, the_unsigned, fits, text_of, value_at, place_at, is_left_brace}
-use Rattle.prem_text.proofs.Prelude.{is_name, is_literal, Lexeme, name, number, word, mark, end_of_text, Seen, ◌≡◌, List, [], ◌∷◌, ◌++◌, Option, None, Some, Bool, true, false, refl, ap, sym}
-use Rattle.prem_text.proofs.Prelude.{subst, ◌∙◌, append_assoc}
+use Rattle.prem_text.proofs.Prelude.{is_name, is_literal, Lexeme, name, number, word, mark, end_of_text, Seen}
 use Rattle.prem_syntax.specs.declared.tree.Ty.TheVariants.{Void, Int, Unsigned, Short, Ushort, Schar, Uchar}
 use Rattle.prem_text.specs.declared.lexing.token.token.Mark.TheVariants as m
 use Rattle.prem_text.specs.declared.lexing.token.token.Word.TheVariants as w

@@ -1,4 +1,5 @@
 -- Globals and functions are read as the grammar says.
+use Rattle.std.proofs.Common.{◌≡◌, ℕ, ℤ, List, [], ◌∷◌, ◌++◌, Option, None, Some, Bool, true, false, refl, ap, sym, subst, ◌∙◌, append_assoc}
 use Rattle.prem_text.proofs.Prelude.{Text, RegionText, MarkText, InitialValue, absent, one, many, GlobalVariable, global_item, Place, Ty, an_item, only_value, next_value, mark_row}
 use Rattle.prem_text.proofs.Prelude.{region_row, length_row, global_row, Stage, outside, marked, in_row, behind_item, behind_global, before_initial, before_constant, behind_constant, ahead}
 use Rattle.prem_text.proofs.Prelude.{made, refused, type_begins, scalar, with_initial, constant, begins_type, with_region, row_ends, step, IsRow, name_at, quiet, TypeForm, void_type}
@@ -7,8 +8,8 @@ use Rattle.prem_text.proofs.Prelude.{declaration_tokens, constant_tree, PartedCo
 use Rattle.prem_text.proofs.Prelude.{constants_tree, initial_tokens, initial_tree, IsLength, length_tokens, length_tree, GlobalPhrase, IsGlobal, MarkPhrase, AreRegions, region_tokens}
 use Rattle.prem_text.proofs.Prelude.{region_trees, IsMark, mark_tokens, mark_tree, ItemPhrase, of_global, item_tokens, item_tree, item_past, Slot, left_parenthesis, right_parenthesis}
 use Rattle.prem_text.proofs.Prelude.{left_brace, right_brace, left_bracket, right_bracket, semicolon, comma, equal_sign, a_name, a_literal, the_predictable, the_region, fits, value_at}
-use Rattle.prem_text.proofs.Prelude.{place_at, is_left_parenthesis, is_left_bracket, is_left_brace, is_comma, is_equal, is_predictable, is_region, is_end, Lexeme, word, mark, Seen, ◌≡◌, ℕ}
-use Rattle.prem_text.proofs.Prelude.{ℤ, List, [], ◌∷◌, ◌++◌, Option, None, Some, Bool, true, false, refl, ap, sym, subst, ◌∙◌, append_assoc, append-nil}
+use Rattle.prem_text.proofs.Prelude.{place_at, is_left_parenthesis, is_left_bracket, is_left_brace, is_comma, is_equal, is_predictable, is_region, is_end, Lexeme, word, mark, Seen}
+use Rattle.prem_text.proofs.Prelude.{append-nil}
 use Rattle.prem_text.proofs.GrammarLemmas.ItemTaken.{Runs, rest, forth, runs_append, quiet_append, quietly, row_from, one_runs, first_word, declaration_runs, constant_runs}
 use Rattle.prem_text.proofs.GrammarLemmas.Taken.{name_in_row}
 use Rattle.prem_text.specs.declared.lexing.token.token.Mark.TheVariants as m

@@ -1,9 +1,10 @@
 -- All statements of a body are read as the grammar says.
+use Rattle.std.proofs.Common.{◌≡◌, ℕ, suc, List, [], ◌∷◌, ◌++◌, None, Some, Bool, true, false, refl, ap, sym, subst, ◌∙◌, append_assoc}
 use Rattle.prem_text.proofs.Prelude.{Expression, Statement, block, if_then, Place, tree, name_at, quiet, opening, right_brace, value_at, place_at, is_else, is_right_brace, Around, in_block}
 use Rattle.prem_text.proofs.Prelude.{in_taken, in_other, in_while, in_for, Point, between, may_else, on, ended, is_at_most, turn, listed, step_size, argument_tokens, argument_past}
 use Rattle.prem_text.proofs.Prelude.{StatementPhrase, of_block, of_if, of_else, of_for, of_while, of_output, of_call, of_input, of_call_to, of_assign, of_change, of_count, StatementPhrases}
 use Rattle.prem_text.proofs.Prelude.{no_phrases, next_phrase, IsStatement, AreStatements, ends_open, written, all_written, meant, all_meant, loop_names, past, all_past, Lexeme, mark, Seen}
-use Rattle.prem_text.proofs.Prelude.{◌≡◌, ℕ, suc, List, [], ◌∷◌, ◌++◌, None, Some, Bool, true, false, refl, ap, sym, subst, ◌∙◌, append_assoc, append-nil}
+use Rattle.prem_text.proofs.Prelude.{append-nil}
 use Rattle.prem_text.proofs.GrammarLemmas.Taken.{Turns, stay, go, turns_append, depth_of, ended_quiet, first_brace, nest_flag}
 use Rattle.prem_text.proofs.GrammarLemmas.TakenAll.{call_begins, call_to_begins, input_reads, assign_reads, change_reads, count_reads, settle_same, plain_append, plain_slot, plain_statement}
 use Rattle.prem_text.proofs.GrammarLemmas.TakenAll.{agree}

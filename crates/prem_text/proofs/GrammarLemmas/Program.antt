@@ -1,8 +1,8 @@
 -- Programs are read as the grammar says, up to the first token past a limit.
+use Rattle.std.proofs.Common.{◌≡◌, List, [], ◌∷◌, ◌++◌, Option, None, Some, Result, Ok, Bool, true, false, refl, ap, sym, subst, ◌∙◌, append_assoc}
 use Rattle.prem_text.proofs.Prelude.{ItemText, ProgramText, Place, Stage, outside, finished, ItemStep, ahead, made, refused, step, is_too_deep, stages, depths, are_within, IsRow, quiet}
 use Rattle.prem_text.proofs.Prelude.{ItemPhrase, of_global, of_function, IsItem, item_tokens, item_tree, item_past, AreItems, items_tokens, items_tree, items_past, ProgramPhrase, IsProgram}
-use Rattle.prem_text.proofs.Prelude.{program_tokens, program_tree, program_past, unless_deep, at_end, read_on, read, the_end, fits, Seen, no_program, too_deep, FrontFail, ◌≡◌, List, [], ◌∷◌}
-use Rattle.prem_text.proofs.Prelude.{◌++◌, Option, None, Some, Result, Ok, Bool, true, false, refl, ap, sym, subst, ◌∙◌, append_assoc, append-nil}
+use Rattle.prem_text.proofs.Prelude.{program_tokens, program_tree, program_past, unless_deep, at_end, read_on, read, the_end, fits, Seen, no_program, too_deep, FrontFail, append-nil}
 use Rattle.prem_text.proofs.GrammarLemmas.FunctionWhole.{function_read}
 use Rattle.prem_text.proofs.GrammarLemmas.ItemTaken.{Runs, rest, forth}
 use Rattle.prem_text.proofs.GrammarLemmas.ItemWhole.{ItemRead, global_read}

@@ -1,12 +1,11 @@
 -- What the reader has taken begins a program, also where it refuses the next token.
-use Rattle.prem_text.proofs.Prelude.{ItemText, Stage, outside, ItemStep, ahead, made, refused, step, stages, Begins, IsRow, items_tokens, the_end, Seen, ◌≡◌, inl, inr, List, [], ◌∷◌, ◌++◌}
-use Rattle.prem_text.proofs.Prelude.{None, Some, refl, ap, sym, subst, ◌∙◌, append_assoc, append-nil}
+use Rattle.std.proofs.Common.{◌⊎◌, ◌≡◌, inl, inr, List, [], ◌∷◌, ◌++◌, None, Some, refl, ap, sym, subst, ◌∙◌, append_assoc}
+use Rattle.prem_text.proofs.Prelude.{ItemText, Stage, outside, ItemStep, ahead, made, refused, step, stages, Begins, IsRow, items_tokens, the_end, Seen, append-nil}
 use Rattle.prem_text.proofs.GrammarLemmas.Fill.{samples}
 use Rattle.prem_text.proofs.GrammarLemmas.ItemFill.{ItemBegins, fill_stage}
 use Rattle.prem_text.proofs.GrammarLemmas.ItemStand.{is_outside}
 use Rattle.prem_text.proofs.GrammarLemmas.Program.{Reached, reached, stages_step, some_same}
 use Rattle.prem_text.proofs.GrammarLemmas.ProgramSound.{SoFar, far_ahead, far_made, more_item_tokens, more_are_items}
-use Rattle.std.proofs.Common.{◌⊎◌}
 
 begins_far : (items : List ItemText) (s : Stage) (pre : List Seen) → SoFar items s pre → Begins pre
 begins_far items s pre far = by (fill_stage s far.mid far.stage)

@@ -1,7 +1,7 @@
 -- Which tokens are refused: those that stand in no program, and the first ones past a limit.
+use Rattle.std.proofs.Common.{◌≡◌, ◌<◌, ℕ, List, [], ◌∷◌, ◌++◌, None, Some, Err, Bool, true, false, refl, ap, sym, subst, ◌∙◌, append_assoc, arith}
 use Rattle.prem_text.proofs.Prelude.{ItemText, Stage, outside, finished, ItemStep, ahead, made, refused, step, is_too_deep, stages, depths, IsUnexpected, IsPast, quiet, ProgramPhrase}
-use Rattle.prem_text.proofs.Prelude.{IsProgram, program_tokens, program_tree, program_past, unless_deep, at_end, read_on, read, Seen, too_deep, FrontFail, Syntax, TooDeep, ◌≡◌, ◌<◌, ℕ, List}
-use Rattle.prem_text.proofs.Prelude.{[], ◌∷◌, ◌++◌, None, Some, Err, Bool, true, false, refl, ap, sym, subst, ◌∙◌, append_assoc, arith}
+use Rattle.prem_text.proofs.Prelude.{IsProgram, program_tokens, program_tree, program_past, unless_deep, at_end, read_on, read, Seen, too_deep, FrontFail, Syntax, TooDeep}
 use Rattle.prem_text.proofs.GrammarLemmas.Program.{Reached, reached, read_by, stages_step, depths_step, read_step, shallow, deep, stages_split, some_same, program_stages, programs_deep}
 use Rattle.prem_text.proofs.GrammarLemmas.ProgramBegun.{begins_after}
 

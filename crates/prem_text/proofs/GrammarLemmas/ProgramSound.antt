@@ -1,7 +1,8 @@
 -- What is read as a program is one, within the limits.
+use Rattle.std.proofs.Common.{◌≡◌, List, [], ◌∷◌, ◌++◌, Ok, Bool, true, false, refl, ap, sym, subst, ◌∙◌, append_assoc}
 use Rattle.prem_text.proofs.Prelude.{ItemText, ProgramText, Stage, outside, finished, ItemStep, ahead, made, refused, step, is_too_deep, depths, are_within, ItemPhrase, IsItem, item_tokens}
 use Rattle.prem_text.proofs.Prelude.{item_tree, AreItems, items_tokens, items_tree, ProgramPhrase, IsProgram, program_tokens, program_tree, program_past, at_end, read_on, read, Seen}
-use Rattle.prem_text.proofs.Prelude.{no_program, too_deep, ◌≡◌, List, [], ◌∷◌, ◌++◌, Ok, Bool, true, false, refl, ap, sym, subst, ◌∙◌, append_assoc, append-nil}
+use Rattle.prem_text.proofs.Prelude.{no_program, too_deep, append-nil}
 use Rattle.prem_text.proofs.GrammarLemmas.ItemStand.{StageIs, is_outside, is_finished, FineStep, Whole, step_fine}
 use Rattle.prem_text.proofs.GrammarLemmas.Program.{depths_step, read_step, shallow, deep, program_stages}
 

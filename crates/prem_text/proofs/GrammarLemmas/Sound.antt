@@ -1,8 +1,8 @@
 -- What is read is spelled so, and what is read so far can be completed.
+use Rattle.std.proofs.Common.{◌≡◌, ◌≤◌, ◌<◌, ℕ, List, [], ◌∷◌, ◌++◌, Option, None, Some, Bool, true, false, refl, sym, subst, ◌∙◌, append_assoc, arith, nat_le, nat_lt}
 use Rattle.prem_text.proofs.Prelude.{Text, Expression, element, Place, UnOp, Neg, Flip, Not, infix_of, prefix_of, level_of, Open, bottom, under, right_of, bracket, index_of, bind, State}
 use Rattle.prem_text.proofs.Prelude.{wants, named, has, Move, goes, ends, stops, operand, operator, closing, behind, move, Phrase, of_literal, of_name, of_element, of_bracket, of_prefix}
-use Rattle.prem_text.proofs.Prelude.{of_infix, spelled, tree, level, Binds, Lexeme, name, number, word, mark, end_of_text, Seen, Mark, BinOp, Int, ◌≡◌, ◌≤◌, ◌<◌, ℕ, List, [], ◌∷◌, ◌++◌}
-use Rattle.prem_text.proofs.Prelude.{Option, None, Some, Bool, true, false, refl, sym, subst, ◌∙◌, append_assoc, arith, nat_le, nat_lt, nat_tests, append-nil}
+use Rattle.prem_text.proofs.Prelude.{of_infix, spelled, tree, level, Binds, Lexeme, name, number, word, mark, end_of_text, Seen, Mark, BinOp, Int, nat_tests, append-nil}
 use Rattle.prem_text.proofs.GrammarLemmas.Steps.{Loose, level_small}
 use Rattle.prem_text.specs.Grammar.Phrases.{Spells}
 use Rattle.prem_text.specs.declared.lexing.token.token.Mark.TheVariants as m

@@ -1,4 +1,5 @@
 -- What the tokens so far spell, wherever the reader of statements stands.
+use Rattle.std.proofs.Common.{◌≡◌, ℕ, List, [], ◌∷◌, ◌++◌, None, Some, Bool, true, false, refl, ap, sym, subst, ◌∙◌, append_assoc}
 use Rattle.prem_text.proofs.Prelude.{Text, Statement, Place, State, Phrase, spelled, tree, IsExpression, IsRow, name_at, Slot, right_parenthesis, left_brace, semicolon, equal_sign}
 use Rattle.prem_text.proofs.Prelude.{step_sign, a_name, the_else, value_at, place_at, Around, in_body, in_block, in_taken, in_other, in_while, in_for, Header, Use, for_output, for_if}
 use Rattle.prem_text.proofs.Prelude.{for_while, for_low, for_high, for_index, for_value, for_change, for_argument, Row, if_row, out_row, while_row, for_row, bound_row, sign_row, step_row}
@@ -6,7 +7,7 @@ use Rattle.prem_text.proofs.Prelude.{last_row, Point, between, may_else, filling
 use Rattle.prem_text.proofs.Prelude.{step_slots, step_size, Target, to_element, target_tokens, target_at, target_text, target_index, IsTarget, Direction, change_sign, change_op, Parted}
 use Rattle.prem_text.proofs.Prelude.{AreParted, parted_tokens, parted_trees, StatementPhrase, of_if, of_else, of_for, of_while, StatementPhrases, no_phrases, next_phrase, if_head, for_head}
 use Rattle.prem_text.proofs.Prelude.{for_bound, while_head, out_head, call_head, call_to_head, IsStatement, AreStatements, ends_open, written, all_written, meant, all_meant, loop_names}
-use Rattle.prem_text.proofs.Prelude.{name, mark, Seen, ◌≡◌, ℕ, List, [], ◌∷◌, ◌++◌, None, Some, Bool, true, false, refl, ap, sym, subst, ◌∙◌, append_assoc, append-nil}
+use Rattle.prem_text.proofs.Prelude.{name, mark, Seen, append-nil}
 use Rattle.prem_text.proofs.GrammarLemmas.Sound.{StandsIn}
 use Rattle.std.specs.Prelude.{if◌then◌else◌}
 use Rattle.prem_text.specs.declared.lexing.token.token.Mark.TheVariants as m

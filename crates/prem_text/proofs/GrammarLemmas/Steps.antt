@@ -1,6 +1,7 @@
 -- How an expression's tokens are read, one after the other.
+use Rattle.std.proofs.Common.{◌≡◌, ◌≤◌, ◌<◌, ℕ, List, [], ◌∷◌, ◌++◌, Bool, Option, None, Some, true, false, refl, arith, nat_le}
 use Rattle.prem_text.proofs.Prelude.{Expression, Place, UnOp, infix_of, prefix_of, level_of, Open, bottom, under, right_of, bracket, index_of, bind, State, wants, goes, move, Lexeme, mark}
-use Rattle.prem_text.proofs.Prelude.{Seen, Mark, BinOp, Add, ◌≡◌, ◌≤◌, ◌<◌, ℕ, List, [], ◌∷◌, ◌++◌, Bool, Option, None, Some, true, false, refl, arith, nat_le, nat_tests}
+use Rattle.prem_text.proofs.Prelude.{Seen, Mark, BinOp, Add, nat_tests}
 use Rattle.prem_text.specs.declared.lexing.token.token.Mark.TheVariants as m
 
 -- a state reads all of these tokens

@@ -1,11 +1,11 @@
 -- What the grammar of statements spells is read, and each token past a limit is seen to be.
+use Rattle.std.proofs.Common.{◌≡◌, ◌+◌, ◌-◌, ℕ, zero, suc, List, [], ◌∷◌, ◌++◌, Option, None, Some, Bool, true, false, ◌&&◌, not, refl, ap, subst, ◌∙◌, append_assoc, arith, nat_lt, nat_le}
 use Rattle.prem_text.proofs.Prelude.{Text, Statement, if_else, bounded_while, counting_for, Place, bottom, State, wants, has, Move, goes, ends, stops, move, is_closer, Phrase, spelled, tree}
 use Rattle.prem_text.proofs.Prelude.{level, IsExpression, IsRow, name_at, name_or_none, quiet, counted, opening, Slot, left_parenthesis, right_parenthesis, semicolon, comma, equal_sign}
 use Rattle.prem_text.proofs.Prelude.{a_name, a_literal, the_while, fits, text_of, text_at, place_at, is_left_parenthesis, is_comma, is_if, is_out, is_bounded, is_for, is_name, is_left_brace}
 use Rattle.prem_text.proofs.Prelude.{Around, in_body, in_block, in_taken, in_other, in_while, in_for, Use, for_low, Row, if_row, out_row, while_row, for_row, bound_row, sign_row, step_row}
 use Rattle.prem_text.proofs.Prelude.{last_row, Point, between, filling, inside, on_name, Turn, on, wrong, ended, expression, least_of, begin, next, filled, when, used, turn, nests}
-use Rattle.prem_text.proofs.Prelude.{begins_row, is_past, is_start, at_start, lone_name, called, for_head, Lexeme, name, number, word, mark, end_of_text, Seen, ◌≡◌, ◌+◌, ◌-◌, ℕ, zero, suc}
-use Rattle.prem_text.proofs.Prelude.{List, [], ◌∷◌, ◌++◌, Option, None, Some, Bool, true, false, ◌&&◌, not, refl, ap, subst, ◌∙◌, append_assoc, arith, nat_lt, nat_le, nat_tests}
+use Rattle.prem_text.proofs.Prelude.{begins_row, is_past, is_start, at_start, lone_name, called, for_head, Lexeme, name, number, word, mark, end_of_text, Seen, nat_tests}
 use Rattle.prem_text.proofs.GrammarLemmas.Complete.{reads_phrase}
 use Rattle.prem_text.proofs.GrammarLemmas.Steps.{Goes, done, more, Same}
 use Rattle.std.specs.Prelude.{if◌then◌else◌}

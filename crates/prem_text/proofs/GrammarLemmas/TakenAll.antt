@@ -1,4 +1,5 @@
 -- Statements in statements are read as the grammar says.
+use Rattle.std.proofs.Common.{◌≡◌, suc, List, [], ◌∷◌, ◌++◌, None, Some, Bool, true, false, refl, sym, ◌∙◌}
 use Rattle.prem_text.proofs.Prelude.{Text, Statement, if_else, bounded_while, counting_for, input, Place, bottom, wants, named, Phrase, spelled, tree, IsRow, name_at, name_or_none, opening}
 use Rattle.prem_text.proofs.Prelude.{Slot, left_parenthesis, right_parenthesis, left_brace, semicolon, equal_sign, a_name, a_literal, the_if, the_for, the_while, the_bounded, the_in}
 use Rattle.prem_text.proofs.Prelude.{the_out, fits, text_of, place_at, is_left_parenthesis, is_else, is_in, is_name, is_equal, Around, in_body, in_block, in_taken, in_other, in_while}
@@ -6,7 +7,7 @@ use Rattle.prem_text.proofs.Prelude.{in_for, for_index, for_value, for_change, f
 use Rattle.prem_text.proofs.Prelude.{behind_name, turn, by_one, Target, to_name, to_element, target_tokens, target_at, target_text, target_index, target_past, IsTarget, Direction, up, down}
 use Rattle.prem_text.proofs.Prelude.{change_sign, change_op, count_sign, argument_tokens, StatementPhrase, of_block, of_if, of_else, of_for, of_while, of_output, of_call, of_input}
 use Rattle.prem_text.proofs.Prelude.{of_call_to, of_assign, of_change, of_count, call_head, call_to_head, input_row, IsStatement, written, all_written, meant, past, Lexeme, name, number}
-use Rattle.prem_text.proofs.Prelude.{word, mark, end_of_text, Seen, ◌≡◌, suc, List, [], ◌∷◌, ◌++◌, None, Some, Bool, true, false, refl, sym, ◌∙◌}
+use Rattle.prem_text.proofs.Prelude.{word, mark, end_of_text, Seen}
 use Rattle.prem_text.proofs.GrammarLemmas.Taken.{Turns, stay, go, turns_append, depth_of, ended_quiet, reads_inside, row_reads, one_behind, when_fits, first_name, nest_flag}
 use Rattle.prem_text.proofs.GrammarLemmas.TakenWhole.{semicolon_reads}
 use Rattle.prem_text.specs.declared.lexing.token.token.Mark.TheVariants as m

@@ -1,4 +1,5 @@
 -- Whole statements are read as the grammar says, also where they are nested.
+use Rattle.std.proofs.Common.{◌≡◌, ℕ, suc, List, [], ◌∷◌, ◌++◌, Option, None, Some, true, false, refl, ap, sym, subst, ◌∙◌, append_assoc}
 use Rattle.prem_text.proofs.Prelude.{Text, Expression, Statement, output, call, Place, bottom, State, wants, has, Phrase, spelled, tree, level, IsExpression, IsRow, name_at, quiet, counted}
 use Rattle.prem_text.proofs.Prelude.{opening, left_parenthesis, right_parenthesis, semicolon, comma, equal_sign, comparison, step_sign, a_name, a_literal, the_if, the_for, the_while}
 use Rattle.prem_text.proofs.Prelude.{the_bounded, the_out, fits, text_at, value_at, place_at, is_comma, Around, in_taken, in_while, in_for, Use, for_output, for_if, for_while, for_low}
@@ -6,7 +7,7 @@ use Rattle.prem_text.proofs.Prelude.{for_high, for_argument, if_row, out_row, wh
 use Rattle.prem_text.proofs.Prelude.{expression, least_of, finish, rest_of_step, fourth_in, looped, is_at_most, filled, used, turn, is_past, StepForm, by_one_step, added_step, summed_step}
 use Rattle.prem_text.proofs.Prelude.{step_slots, step_size, fourth_name, Parted, AreParted, parted_tokens, parted_trees, parted_past, Arguments, no_arguments, arguments, AreArguments}
 use Rattle.prem_text.proofs.Prelude.{argument_tokens, argument_trees, argument_past, of_output, if_head, for_head, for_bound, while_head, statement_tail, IsStatement, loop_names, Lexeme}
-use Rattle.prem_text.proofs.Prelude.{mark, Seen, ◌≡◌, ℕ, suc, List, [], ◌∷◌, ◌++◌, Option, None, Some, true, false, refl, ap, sym, subst, ◌∙◌, append_assoc, append-nil}
+use Rattle.prem_text.proofs.Prelude.{mark, Seen, append-nil}
 use Rattle.prem_text.proofs.GrammarLemmas.Stand.{header_of}
 use Rattle.prem_text.proofs.GrammarLemmas.Steps.{Same}
 use Rattle.prem_text.proofs.GrammarLemmas.Taken.{Turns, stay, go, turns_append, depth_of, ended_quiet, reads_inside, row_reads, behind_expression, one_behind, name_in_row}

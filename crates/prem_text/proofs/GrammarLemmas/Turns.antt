@@ -1,4 +1,5 @@
 -- Each token that the reader of statements takes is spelled, and behind a body the body is.
+use Rattle.std.proofs.Common.{◌≡◌, ◌≤◌, ◌-◌, ℕ, List, [], ◌∷◌, ◌++◌, Option, None, Some, true, false, refl, ap, sym, subst, ◌∙◌, append_assoc, arith}
 use Rattle.prem_text.proofs.Prelude.{Text, Expression, Statement, input, Place, bottom, State, wants, Move, goes, ends, stops, move, Phrase, spelled, tree, IsExpression, IsRow, name_at}
 use Rattle.prem_text.proofs.Prelude.{name_or_none, Slot, left_parenthesis, right_parenthesis, semicolon, comma, equal_sign, comparison, step_sign, a_name, a_literal, the_while, fits}
 use Rattle.prem_text.proofs.Prelude.{text_at, place_at, is_left_parenthesis, is_else, is_in, is_comma, is_right_brace, Around, in_for, Use, for_output, for_if, for_while, for_low, for_high}
@@ -8,7 +9,7 @@ use Rattle.prem_text.proofs.Prelude.{is_at_most, filled, filled_or, change, behi
 use Rattle.prem_text.proofs.Prelude.{step_slots, step_size, fourth_name, Target, to_name, to_element, target_tokens, target_at, target_text, target_index, IsTarget, up, down, Parted}
 use Rattle.prem_text.proofs.Prelude.{AreParted, parted_tokens, parted_trees, no_arguments, arguments, StatementPhrase, of_block, of_if, of_output, of_call, of_input, of_call_to, of_assign}
 use Rattle.prem_text.proofs.Prelude.{of_change, of_count, no_phrases, if_head, for_head, for_bound, IsStatement, ends_open, written, meant, Lexeme, name, number, word, mark, end_of_text}
-use Rattle.prem_text.proofs.Prelude.{Seen, ◌≡◌, ◌≤◌, ◌-◌, ℕ, List, [], ◌∷◌, ◌++◌, Option, None, Some, true, false, refl, ap, sym, subst, ◌∙◌, append_assoc, arith, append-nil}
+use Rattle.prem_text.proofs.Prelude.{Seen, append-nil}
 use Rattle.prem_text.proofs.GrammarLemmas.Sound.{at_bottom, at_prefix, at_infix, at_bracket, at_index, StandsIn, wanting, naming, having, Fine, move_fine}
 use Rattle.prem_text.proofs.GrammarLemmas.Stand.{Opened, body_opened, block_opened, taken_opened, other_opened, while_opened, for_opened, header_of, RowIs, if_is, out_is, while_is, for_is}
 use Rattle.prem_text.proofs.GrammarLemmas.Stand.{bound_is, sign_is, step_is, last_is, UseIs, output_is, condition_is, turns_is, low_is, high_is, index_is, value_is, change_is, argument_is}

@@ -1,7 +1,8 @@
 -- How the tokens of a text follow from those of its rest.
+use Rattle.std.proofs.Common.{◌≡◌, ◌≤◌, ◌<◌, ℕ, suc, ◌+◌, List, [], ◌∷◌, ◌++◌, length, get_or, drop, Option, None, Some, Result, Ok, Err, refl, ap, ◌∙◌, arith, false, nat_lt, sym}
+use Rattle.std.proofs.Common.{append_assoc, drop-cons, add-one}
 use Rattle.prem_text.proofs.Prelude.{Place, Lexeme, Seen, end_of_text, ◌>>=◌, Fails, place, put, with_front, lex, beginning, tokens_of, Cursor, Mode, Skip, Line, Block, FrontFail, NotText}
-use Rattle.prem_text.proofs.Prelude.{Token, Syntax, TooLong, TooDeep, OutOfMemory, ◌≡◌, ◌≤◌, ◌<◌, ℕ, suc, ◌+◌, List, [], ◌∷◌, ◌++◌, length, get_or, drop, Option, None, Some, Result, Ok, Err}
-use Rattle.prem_text.proofs.Prelude.{refl, ap, ◌∙◌, arith, false, nat_lt, sym, append_assoc, drop-cons, add-one, nat_tests, drop_all}
+use Rattle.prem_text.proofs.Prelude.{Token, Syntax, TooLong, TooDeep, OutOfMemory, nat_tests, drop_all}
 use Rattle.prem_text.specs.Lexing.Tokens.{behind, step, at_end}
 
 with_front_twice : (xs ys : List Seen) (r : Result (List Seen) FrontFail) → with_front xs (with_front ys r) ≡ with_front (xs ++ ys) r

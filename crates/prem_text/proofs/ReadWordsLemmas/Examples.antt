@@ -1,7 +1,7 @@
 -- The law at small texts.
+use Rattle.std.proofs.Common.{◌≡◌, ℕ, ◌^◌, List, [], ◌∷◌, None, Some, Ok, Err, codes, refl, arith}
 use Rattle.prem_text.proofs.Prelude.{ProgramHasWords, literal, variable, element, binary, assign, no_statements, next_statement, ProgramText, absent, global_item, function_item, Place}
-use Rattle.prem_text.proofs.Prelude.{literal_word, used_word, is_unused, reserved_word, longest_mark, first_token, start, lex, tokens_of, reads, Token, Add, Int, Unsigned, ◌≡◌, ℕ, ◌^◌, List}
-use Rattle.prem_text.proofs.Prelude.{[], ◌∷◌, None, Some, Ok, Err, codes, refl, arith}
+use Rattle.prem_text.proofs.Prelude.{literal_word, used_word, is_unused, reserved_word, longest_mark, first_token, start, lex, tokens_of, reads, Token, Add, Int, Unsigned}
 use Rattle.prem_text.proofs.ReadWordsLemmas.ProgramWords.{reads_have_words}
 use Rattle.prem_text.specs.Lexing.Tokens.{step}
 use Rattle.prem_syntax.specs.declared.tree.Ty.TheVariants as ty

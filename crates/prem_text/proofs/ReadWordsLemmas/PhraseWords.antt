@@ -1,5 +1,6 @@
 -- Literals of an expression whose tokens are spelled are words.
-use Rattle.prem_text.proofs.Prelude.{HasWords, Place, Phrase, of_literal, of_name, of_element, of_bracket, of_prefix, of_infix, spelled, tree, number, Kind, ℕ, ◌^◌, ◌<◌, [], ◌∷◌, arith}
+use Rattle.std.proofs.Common.{ℕ, ◌^◌, ◌<◌, [], ◌∷◌, arith}
+use Rattle.prem_text.proofs.Prelude.{HasWords, Place, Phrase, of_literal, of_name, of_element, of_bracket, of_prefix, of_infix, spelled, tree, number, Kind}
 use Rattle.prem_text.proofs.CanonicalLemmas.Sayable.{IsSayable, AreSaid, front, back, value_bound}
 
 literal_word : (at : Place) (value : ℕ) (kind : Kind) → IsSayable (number value kind) → value < 2 ^ 32

@@ -1,7 +1,8 @@
 -- Literals of a program that is read from a text are words.
+use Rattle.std.proofs.Common.{ℕ, List, [], ◌∷◌, ◌++◌, Option, None, Some, sym, subst}
 use Rattle.prem_text.proofs.Prelude.{HasWordsIf, LocalsHaveWords, ProgramHasWords, ProgramText, spelled, declaration_tokens, mark_tokens, parameters_tokens, LocalPhrase, local_tokens}
 use Rattle.prem_text.proofs.Prelude.{local_trees, ResultPhrase, result_tokens, result_tree, global_tokens, function_tokens, ItemPhrase, of_global, of_function, items_tokens, items_tree}
-use Rattle.prem_text.proofs.Prelude.{all_written, IsProgramText, ℕ, List, [], ◌∷◌, ◌++◌, Option, None, Some, sym, subst}
+use Rattle.prem_text.proofs.Prelude.{all_written, IsProgramText}
 use Rattle.prem_text.proofs.CanonicalLemmas.Sayable.{AreSaid, front, back, tokens_said}
 use Rattle.prem_text.proofs.ReadWordsLemmas.PhraseWords.{phrase_words}
 use Rattle.prem_text.proofs.ReadWordsLemmas.StatementWords.{statements_words}

@@ -1,8 +1,9 @@
 -- Literals of statements whose tokens are spelled are words.
+use Rattle.std.proofs.Common.{List, [], ◌∷◌, ◌++◌, Option, None, Some, arith}
 use Rattle.prem_text.proofs.Prelude.{HasWords, HasWordsIf, HaveWords, StatementHasWords, StatementsHaveWords, Text, Expression, Place, spelled, tree, listed, side, Target, to_name}
 use Rattle.prem_text.proofs.Prelude.{to_element, Parted, Arguments, no_arguments, arguments, StatementPhrase, StatementPhrases, of_block, of_if, of_else, of_for, of_while, of_output}
 use Rattle.prem_text.proofs.Prelude.{of_call, of_input, of_call_to, of_assign, of_change, of_count, no_phrases, next_phrase, parted_tokens, argument_tokens, target_tokens, written}
-use Rattle.prem_text.proofs.Prelude.{all_written, parted_trees, argument_trees, target_at, target_text, target_index, meant, all_meant, List, [], ◌∷◌, ◌++◌, Option, None, Some, arith}
+use Rattle.prem_text.proofs.Prelude.{all_written, parted_trees, argument_trees, target_at, target_text, target_index, meant, all_meant}
 use Rattle.prem_text.proofs.CanonicalLemmas.Sayable.{AreSaid, front, back}
 use Rattle.prem_text.proofs.ReadWordsLemmas.PhraseWords.{phrase_words}
 

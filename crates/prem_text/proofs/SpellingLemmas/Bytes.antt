@@ -1,6 +1,7 @@
 -- Single bytes, and runs of them.
-use Rattle.prem_text.proofs.Prelude.{digit_value, is_suffix, is_digit, is_name_byte, is_blank, is_printable, goes_on, every, is_letter, is_hexadecimal, ◌≡◌, ◌≤◌, ℕ, Bool, true, false, List}
-use Rattle.prem_text.proofs.Prelude.{[], ◌∷◌, ◌++◌, length, refl, sym, ap, ◌∙◌, arith, nat_lt, ◌||◌, ◌==◌, cond, take_while, zero-le, and_parts, and_from, nat_tests, take_while-cons}
+use Rattle.std.proofs.Common.{◌≡◌, ◌≤◌, ℕ, Bool, true, false, List, [], ◌∷◌, ◌++◌, length, refl, sym, ap, ◌∙◌, arith, nat_lt, ◌||◌, ◌==◌, cond, take_while, zero-le}
+use Rattle.prem_text.proofs.Prelude.{digit_value, is_suffix, is_digit, is_name_byte, is_blank, is_printable, goes_on, every, is_letter, is_hexadecimal, and_parts, and_from, nat_tests}
+use Rattle.prem_text.proofs.Prelude.{take_while-cons}
 
 or_more : (d a b c : Bool) → (a || b || c) ≡ true → (d || a || b || c) ≡ true
 or_more true a b c is = refl

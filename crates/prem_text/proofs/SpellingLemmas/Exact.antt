@@ -1,14 +1,14 @@
 -- Every text is divided or refused, and the lexer does what its division says.
+use Rattle.std.proofs.Common.{append-nil, ◌≡◌, ◌≤◌, ◌<◌, ℕ, zero, suc, ◌+◌, ◌-◌, Bool, true, false, List, [], ◌∷◌, ◌++◌, length, Option, None, Some, Result, Ok, Err, refl, sym, ap, subst}
+use Rattle.std.proofs.Common.{◌∙◌, arith, ◌&&◌, ◌||◌, ◌==◌, not, nat_lt, append_assoc, length-append, eqb-true, slice_index, inl, inr, lt-ltb, le-ltb, if◌then◌else◌}
+use Rattle.std.specs.Prelude.{◌⊎◌}
 use Rattle.prem_text.proofs.Prelude.{Lexeme, end_of_text, Seen, is_blank, is_printable, first_token, begins_with, lex, with_front, tokens_of, is_feed, has_close, ends_line, Gap, a_blank}
 use Rattle.prem_text.proofs.Prelude.{a_block, a_line, opens_comment, IsToken, place_behind, Divides, up_to, gap, token, AreTokens, Sticks, is_text, Refused, too_long, too_many, no_text}
-use Rattle.prem_text.proofs.Prelude.{every, Cursor, Skip, FrontFail, NotText, Token, TooLong, ◌≡◌, ◌≤◌, ◌<◌, ℕ, zero, suc, ◌+◌, ◌-◌, Bool, true, false, List, [], ◌∷◌, ◌++◌, length, Option}
-use Rattle.prem_text.proofs.Prelude.{None, Some, Result, Ok, Err, refl, sym, ap, subst, ◌∙◌, arith, ◌&&◌, ◌||◌, ◌==◌, not, nat_lt, append_assoc, length-append, eqb-true, slice_index, inl}
-use Rattle.prem_text.proofs.Prelude.{inr, lt-ltb, le-ltb, if◌then◌else◌, and_parts, and_from, or_right, or_from, cases_lt, ◌⊎◌}
+use Rattle.prem_text.proofs.Prelude.{every, Cursor, Skip, FrontFail, NotText, Token, TooLong, and_parts, and_from, or_right, or_from, cases_lt}
 use Rattle.prem_text.proofs.SpellingLemmas.Front.{token_ready, token_taken}
 use Rattle.prem_text.proofs.SpellingLemmas.Marks.{same_front}
 use Rattle.prem_text.proofs.SpellingLemmas.Steps.{cursor_behind, gap_passes, token_passes, token_refused, byte_refused, comment_refused}
 use Rattle.prem_text.specs.Spelling.Division.{no_token}
-use Rattle.std.proofs.Common.{append-nil}
 
 -- ---- what begins at the front of a text
 

@@ -1,7 +1,7 @@
 -- Small texts and their divisions by hand.
+use Rattle.std.proofs.Common.{◌≡◌, ℕ, Bool, true, false, List, [], ◌∷◌, ◌++◌, codes, refl, replicate}
 use Rattle.prem_text.proofs.Prelude.{Place, literal_word, used_word, is_unused, reserved_word, longest_mark, name, number, word, mark, end_of_text, Seen, first_token, start, lex, tokens_of}
-use Rattle.prem_text.proofs.Prelude.{has_close, opens_comment, place_behind, AreTokens, Refused, Spelling, joined, placed, value_in, NotText, Token, Int, Unsigned, ◌≡◌, ℕ, Bool, true, false}
-use Rattle.prem_text.proofs.Prelude.{List, [], ◌∷◌, ◌++◌, codes, refl, replicate}
+use Rattle.prem_text.proofs.Prelude.{has_close, opens_comment, place_behind, AreTokens, Refused, Spelling, joined, placed, value_in, NotText, Token, Int, Unsigned}
 use Rattle.prem_text.proofs.LexingLemmas.Examples.{on}
 use Rattle.prem_text.proofs.SpellingLemmas.Exact.{sound, refusals_sound}
 use Rattle.prem_text.specs.Lexing.Tokens.{step}

@@ -1,13 +1,13 @@
 -- The token at the front of a text.
+use Rattle.std.proofs.Common.{option_map, ◌≡◌, ◌≤◌, ℕ, Bool, true, false, List, [], ◌∷◌, ◌++◌, length, Option, None, Some, refl, sym, ap, subst, ◌∙◌, nat_le, ◌&&◌, not, cond, slice_index}
+use Rattle.std.proofs.Common.{take_while, le-leb, leb-true, if◌then◌else◌}
 use Rattle.prem_text.proofs.Prelude.{literal_word, reserved_word, longest_mark, marks, Lexeme, name, number, word, mark, is_digit, is_name_byte, is_blank, is_printable, plain_word}
 use Rattle.prem_text.proofs.Prelude.{word_token, first_token, goes_on, is_mark, opens_comment, IsToken, StandsIn, every, is_letter, Literal, Reserved, Spells, as_name, as_word, as_literal}
-use Rattle.prem_text.proofs.Prelude.{as_mark, Mark, Word, Kind, ◌≡◌, ◌≤◌, ℕ, Bool, true, false, List, [], ◌∷◌, ◌++◌, length, Option, None, Some, refl, sym, ap, subst, ◌∙◌, nat_le, ◌&&◌, not}
-use Rattle.prem_text.proofs.Prelude.{cond, slice_index, take_while, le-leb, leb-true, if◌then◌else◌, and_parts, and_from, not-true, take_while-cons}
+use Rattle.prem_text.proofs.Prelude.{as_mark, Mark, Word, Kind, and_parts, and_from, not-true, take_while-cons}
 use Rattle.prem_text.proofs.SpellingLemmas.Bytes.{letter_name, letter_digit, name_letter, digit_name, name_blank, name_printable, run_is, run_of, run_longest}
 use Rattle.prem_text.proofs.SpellingLemmas.Literals.{literal_read, literal_found, is_number_row, literal_row}
 use Rattle.prem_text.proofs.SpellingLemmas.Marks.{is_mark_byte, is_mark_text, mark_text, mark_read, MarkFront, front_mark}
 use Rattle.prem_text.proofs.SpellingLemmas.Tables.{reserved_read, reserved_found, is_word_row, reserved_row}
-use Rattle.std.proofs.Common.{option_map}
 
 -- ---- the shape of spellings
 

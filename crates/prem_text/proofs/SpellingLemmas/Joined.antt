@@ -1,13 +1,12 @@
 -- Spellings with a blank between are read back.
+use Rattle.std.proofs.Common.{append-nil, ◌≡◌, ◌≤◌, ℕ, suc, Bool, true, false, List, [], ◌∷◌, ◌++◌, length, Ok, refl, sym, ap, subst, ◌∙◌, arith, ◌&&◌, ◌==◌, not, zero-le}
 use Rattle.prem_text.proofs.Prelude.{marks, Lexeme, end_of_text, is_name_byte, is_blank, begins_with, tokens_of, a_blank, goes_on, opens_comment, IsToken, place_behind, Divides, up_to, gap}
-use Rattle.prem_text.proofs.Prelude.{token, Spelling, AreSpellings, joined, placed, every, Spells, Mark, ◌≡◌, ◌≤◌, ℕ, suc, Bool, true, false, List, [], ◌∷◌, ◌++◌, length, Ok, refl, sym, ap}
-use Rattle.prem_text.proofs.Prelude.{subst, ◌∙◌, arith, ◌&&◌, ◌==◌, not, zero-le, and_parts, and_from, and_left, and_right, or_from, nat_tests}
+use Rattle.prem_text.proofs.Prelude.{token, Spelling, AreSpellings, joined, placed, every, Spells, Mark, and_parts, and_from, and_left, and_right, or_from, nat_tests}
 use Rattle.prem_text.proofs.SpellingLemmas.Bytes.{every_more, name_blank}
 use Rattle.prem_text.proofs.SpellingLemmas.Exact.{complete}
 use Rattle.prem_text.proofs.SpellingLemmas.Front.{Shape, a_word, a_mark, shape, mark_no_blank}
 use Rattle.prem_text.proofs.SpellingLemmas.Marks.{is_mark_byte, is_mark_text, mark_text}
 use Rattle.prem_text.proofs.SpellingLemmas.Tables.{stands_every}
-use Rattle.std.proofs.Common.{append-nil}
 
 abbrev is_dark : ℕ → Bool
 is_dark b = not (is_blank b)

@@ -1,11 +1,10 @@
 -- Literals: what is read is spelled so, and what is spelled so is read.
+use Rattle.std.proofs.Common.{append-nil, ◌≡◌, ◌≤◌, ◌<◌, ℕ, zero, suc, ◌+◌, ◌*◌, ◌^◌, Bool, true, false, List, [], ◌∷◌, ◌++◌, length, Option, None, Some, refl, sym, ap, subst, ◌∙◌, arith}
+use Rattle.std.proofs.Common.{nat_lt, ◌&&◌, ◌||◌, ◌==◌, slice_index, add-mul, mul_assoc, add_assoc, mul-one, add-zero, option_and_then, if◌then◌else◌}
 use Rattle.prem_text.proofs.Prelude.{digit_value, is_suffix, digits, with_kind, literal_word, is_digit, is_name_byte, every, is_hexadecimal, value_in, Digits, just_zero, decimal}
-use Rattle.prem_text.proofs.Prelude.{hexadecimal, Literal, as_int, as_large, as_suffixed, Kind, Int, Unsigned, ◌≡◌, ◌≤◌, ◌<◌, ℕ, zero, suc, ◌+◌, ◌*◌, ◌^◌, Bool, true, false, List, [], ◌∷◌}
-use Rattle.prem_text.proofs.Prelude.{◌++◌, length, Option, None, Some, refl, sym, ap, subst, ◌∙◌, arith, nat_lt, ◌&&◌, ◌||◌, ◌==◌, slice_index, add-mul, mul_assoc, add_assoc, mul-one}
-use Rattle.prem_text.proofs.Prelude.{add-zero, option_and_then, if◌then◌else◌, and_parts, and_from, nat_tests}
+use Rattle.prem_text.proofs.Prelude.{hexadecimal, Literal, as_int, as_large, as_suffixed, Kind, Int, Unsigned, and_parts, and_from, nat_tests}
 use Rattle.prem_text.proofs.SpellingLemmas.Bytes.{value_suffix, suffix_x, suffix_digit, suffix_name, digit_decimal, decimal_digit, digit_name, hexadecimal_name, x_name, every_append}
 use Rattle.prem_text.proofs.SpellingLemmas.Bytes.{every_more}
-use Rattle.std.proofs.Common.{append-nil}
 use native.Mathlib.Nat.{pow-zero}
 use native.Mathlib.Omega.{pow_step}
 

@@ -1,7 +1,9 @@
 -- Marks: the one that is read is the longest.
-use Rattle.prem_text.proofs.Prelude.{marks, begins, mark_in, longest_mark, Lexeme, mark, is_name_byte, is_blank, is_printable, StandsIn, at_front, further, every, Spells, as_mark, Mark, ◌≡◌}
-use Rattle.prem_text.proofs.Prelude.{◌≤◌, ℕ, Bool, true, false, List, [], ◌∷◌, ◌++◌, length, Option, None, Some, refl, sym, ap, subst, ◌∙◌, arith, nat_le, ◌&&◌, ◌==◌, not, slice_index}
-use Rattle.prem_text.proofs.Prelude.{eq-eqb, eqb-true, leb-true, inl, inr, if◌then◌else◌, and_parts, and_from, nat_tests, ◌⊎◌}
+use Rattle.std.proofs.Common.{◌≡◌, ◌≤◌, ℕ, Bool, true, false, List, [], ◌∷◌, ◌++◌, length, Option, None, Some, refl, sym, ap, subst, ◌∙◌, arith, nat_le, ◌&&◌, ◌==◌, not, slice_index, eq-eqb}
+use Rattle.std.proofs.Common.{eqb-true, leb-true, inl, inr, if◌then◌else◌}
+use Rattle.std.specs.Prelude.{◌⊎◌}
+use Rattle.prem_text.proofs.Prelude.{marks, begins, mark_in, longest_mark, Lexeme, mark, is_name_byte, is_blank, is_printable, StandsIn, at_front, further, every, Spells, as_mark, Mark}
+use Rattle.prem_text.proofs.Prelude.{and_parts, and_from, nat_tests}
 use Rattle.prem_text.proofs.SpellingLemmas.Tables.{stands_every, stands_none, split, pair_is, distinct, one_value}
 
 abbrev pub is_mark_byte : ℕ → Bool

@@ -1,13 +1,12 @@
 -- What the lexer does at a gap, at a token, and where neither begins.
+use Rattle.std.proofs.Common.{append-nil, ◌≡◌, ℕ, zero, suc, ◌+◌, ◌-◌, Bool, true, false, List, [], ◌∷◌, ◌++◌, length, None, Some, Result, Ok, Err, refl, sym, ap, subst, ◌∙◌, arith, ◌==◌}
+use Rattle.std.proofs.Common.{not, cond, reverse, take_while, count_by, append_assoc, length-append, eqb-true, if◌then◌else◌}
 use Rattle.prem_text.proofs.Prelude.{Place, Lexeme, Seen, no_token, is_blank, is_printable, first_token, place, begins_with, start, put, lex, with_front, is_feed, has_close, ends_line, Gap}
-use Rattle.prem_text.proofs.Prelude.{a_blank, a_block, a_line, opens_comment, IsToken, place_behind, every, Cursor, Mode, Skip, Line, Block, FrontFail, NotText, ◌≡◌, ℕ, zero, suc, ◌+◌, ◌-◌}
-use Rattle.prem_text.proofs.Prelude.{Bool, true, false, List, [], ◌∷◌, ◌++◌, length, None, Some, Result, Ok, Err, refl, sym, ap, subst, ◌∙◌, arith, ◌==◌, not, cond, reverse, take_while}
-use Rattle.prem_text.proofs.Prelude.{count_by, append_assoc, length-append, eqb-true, if◌then◌else◌, and_parts, or_parts, and_right, reverse-append, take_while-cons, sum_by-append}
-use Rattle.prem_text.proofs.Prelude.{sum_by-cons}
+use Rattle.prem_text.proofs.Prelude.{a_blank, a_block, a_line, opens_comment, IsToken, place_behind, every, Cursor, Mode, Skip, Line, Block, FrontFail, NotText, and_parts, or_parts}
+use Rattle.prem_text.proofs.Prelude.{and_right, reverse-append, take_while-cons, sum_by-append, sum_by-cons}
 use Rattle.prem_text.proofs.LexingLemmas.Lexing.{lex_cons}
 use Rattle.prem_text.proofs.SpellingLemmas.Front.{token_ready}
 use Rattle.prem_text.specs.Lexing.Tokens.{behind, step}
-use Rattle.std.proofs.Common.{append-nil}
 
 -- ---- places
 

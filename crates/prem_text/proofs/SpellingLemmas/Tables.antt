@@ -1,7 +1,8 @@
 -- Tables of spellings, and the reserved words.
+use Rattle.std.proofs.Common.{◌≡◌, ℕ, Bool, true, false, List, [], ◌∷◌, Option, None, Some, refl, sym, ap, subst, ◌∙◌, not, ◌&&◌, ◌||◌, bytes_eq, is_none, inl, inr, if◌then◌else◌}
+use Rattle.std.specs.Prelude.{◌⊎◌}
 use Rattle.prem_text.proofs.Prelude.{words, unused, word_in, used_word, is_one_of, is_unused, reserved_word, is_name_byte, StandsIn, at_front, further, every, is_letter, Reserved}
-use Rattle.prem_text.proofs.Prelude.{without_use, Word, ◌≡◌, ℕ, Bool, true, false, List, [], ◌∷◌, Option, None, Some, refl, sym, ap, subst, ◌∙◌, not, ◌&&◌, ◌||◌, bytes_eq, is_none, inl, inr}
-use Rattle.prem_text.proofs.Prelude.{if◌then◌else◌, and_parts, or_left, not-true, ◌⊎◌}
+use Rattle.prem_text.proofs.Prelude.{without_use, Word, and_parts, or_left, not-true}
 use Rattle.prem_text.specs.Spelling.Spellings.{used}
 use Rattle.std.proofs.lemmas.Slice.Eq.{bytes_eq-Decides}
 use Rattle.prem_text.specs.declared.lexing.token.token.Word.TheVariants as w

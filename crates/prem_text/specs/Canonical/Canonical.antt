@@ -1,9 +1,9 @@
 -- The canonical spelling of a program's tree, as tokens. It uses `=` for every assignment and has the fewest parentheses.
+use Rattle.std.specs.Prelude.{ℕ, ℤ, pos, ◌+◌, nat_lt, int_lt, Bool, true, false, if◌then◌else◌, List, [], ◌∷◌, ◌++◌, Option, None, Some, unsigned_abs}
 use Rattle.prem_text.specs.Prelude.{Text, Expression, literal, variable, element, unary, binary, Statement, block, if_then, if_else, bounded_while, counting_for, assign, output, input, call}
 use Rattle.prem_text.specs.Prelude.{Statements, no_statements, next_statement, Parameter, LocalVariable, RegionText, MarkText, InitialValue, absent, one, many, GlobalVariable, FunctionText}
 use Rattle.prem_text.specs.Prelude.{ItemText, global_item, function_item, ProgramText, Ty, UnOp, Neg, Flip, Not, BinOp, Add, Sub, Mul, Div, Rem, Shl, Shr, Lt, Le, Gt, Ge, Eq, Ne, And, Xor}
-use Rattle.prem_text.specs.Prelude.{Or, AndAlso, OrElse, Kind, Int, Unsigned, ℕ, ℤ, pos, ◌+◌, nat_lt, int_lt, Bool, true, false, if◌then◌else◌, List, [], ◌∷◌, ◌++◌, Option, None, Some}
-use Rattle.prem_text.specs.Prelude.{unsigned_abs}
+use Rattle.prem_text.specs.Prelude.{Or, AndAlso, OrElse, Kind, Int, Unsigned}
 use Rattle.prem_text.specs.Grammar.Expression.{level_of}
 use Rattle.prem_text.specs.Lexing.Token.Lexeme.{Lexeme, name, number, word, mark}
 use Rattle.prem_text.specs.declared.lexing.token.token.Mark.{Mark}

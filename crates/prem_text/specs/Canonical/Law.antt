@@ -1,5 +1,6 @@
 -- What holds of the canonical spelling of a text's tree.
-use Rattle.prem_text.specs.Prelude.{Expression, ProgramText, ◌≡◌, ℕ, ◌+◌, ◌≤◌, ◌<◌, List, [], ◌∷◌, ◌++◌, length, map, Result, Ok, Err}
+use Rattle.std.specs.Prelude.{◌≡◌, ℕ, ◌+◌, ◌≤◌, ◌<◌, List, [], ◌∷◌, ◌++◌, length, map, Result, Ok, Err}
+use Rattle.prem_text.specs.Prelude.{Expression, ProgramText}
 use Rattle.prem_text.specs.Canonical.Canonical.{program_lexemes}
 use Rattle.prem_text.specs.Canonical.Printed.{printed}
 use Rattle.prem_text.specs.Canonical.Unplaced.{unplaced_expression, unplaced}

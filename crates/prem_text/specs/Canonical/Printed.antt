@@ -1,5 +1,6 @@
 -- The canonical spelling of a program's tree, as a text.
-use Rattle.prem_text.specs.Prelude.{ProgramText, Int, Unsigned, ℕ, List, [], ◌++◌, map, codes, decimal}
+use Rattle.std.specs.Prelude.{ℕ, List, [], ◌++◌, map, codes, decimal}
+use Rattle.prem_text.specs.Prelude.{ProgramText, Int, Unsigned}
 use Rattle.prem_text.specs.Canonical.Canonical.{program_lexemes}
 use Rattle.prem_text.specs.Lexing.Token.Lexeme.{Lexeme, name, number, word, mark, end_of_text}
 use Rattle.prem_text.specs.Spelling.Spelled.{Spelling, joined}

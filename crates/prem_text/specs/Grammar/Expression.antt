@@ -1,6 +1,7 @@
 -- Reading an expression, one token after the other.
+use Rattle.std.specs.Prelude.{ℕ, nat_le, nat_lt, if◌then◌else◌, Option, None, Some}
 use Rattle.prem_text.specs.Prelude.{Text, Expression, literal, variable, element, unary, binary, Place, UnOp, Neg, Flip, Not, BinOp, Add, Sub, Mul, Div, Rem, Shl, Shr, Lt, Le, Gt, Ge, Eq}
-use Rattle.prem_text.specs.Prelude.{Ne, And, Xor, Or, AndAlso, OrElse, ℕ, nat_le, nat_lt, if◌then◌else◌, Option, None, Some}
+use Rattle.prem_text.specs.Prelude.{Ne, And, Xor, Or, AndAlso, OrElse}
 use Rattle.prem_text.specs.Lexing.Token.Lexeme.{Lexeme, name, number, mark, Seen}
 use Rattle.prem_text.specs.declared.lexing.token.token.Mark.{Mark}
 use Rattle.prem_text.specs.declared.lexing.token.token.Mark.TheVariants as m

@@ -1,7 +1,7 @@
 -- Reading the items of a program, one token after the other.
+use Rattle.std.specs.Prelude.{ℕ, ◌-◌, ℤ, pos, neg_ℤ, Bool, true, false, not, nat_lt, if◌then◌else◌, List, [], ◌∷◌, ◌++◌, Option, None, Some}
 use Rattle.prem_text.specs.Prelude.{Text, Expression, no_statements, Statements, Parameter, LocalVariable, RegionText, MarkText, InitialValue, absent, one, many, GlobalVariable}
-use Rattle.prem_text.specs.Prelude.{FunctionText, ItemText, global_item, function_item, Place, Ty, Void, Short, Ushort, Schar, Uchar, ℕ, ◌-◌, ℤ, pos, neg_ℤ, Bool, true, false, not, nat_lt}
-use Rattle.prem_text.specs.Prelude.{if◌then◌else◌, List, [], ◌∷◌, ◌++◌, Option, None, Some}
+use Rattle.prem_text.specs.Prelude.{FunctionText, ItemText, global_item, function_item, Place, Ty, Void, Short, Ushort, Schar, Uchar}
 use Rattle.prem_syntax.specs.declared.tree.Ty.TheVariants.{Int, Unsigned}
 use Rattle.prem_text.specs.Grammar.Expression.{bottom, State, wants, goes, ends, stops, move}
 use Rattle.prem_text.specs.Grammar.Slots.{Slot, left_parenthesis, right_parenthesis, left_brace, right_brace, right_bracket, semicolon, comma, equal_sign, a_name, a_literal, fits, text_at}

@@ -1,5 +1,6 @@
 -- What the reader does with a list of tokens, for the laws that hold it to the grammar.
-use Rattle.prem_text.specs.Prelude.{ItemText, ◌≡◌, ℕ, Bool, true, false, List, [], ◌∷◌, ◌++◌, Option, None, Some}
+use Rattle.std.specs.Prelude.{◌≡◌, ℕ, Bool, true, false, List, [], ◌∷◌, ◌++◌, Option, None, Some}
+use Rattle.prem_text.specs.Prelude.{ItemText}
 use Rattle.prem_text.specs.Grammar.Expression.{State, goes, ends, stops, move}
 use Rattle.prem_text.specs.Grammar.Item.{Stage, outside, ahead, made, refused, step, is_too_deep}
 use Rattle.prem_text.specs.Grammar.Phrases.{quiet}

@@ -1,6 +1,6 @@
 -- The grammar of expressions: phrases as they are spelled, with the place of each token.
-use Rattle.prem_text.specs.Prelude.{Text, Expression, literal, variable, element, unary, binary, Place, UnOp, BinOp, Kind, ◌≡◌, ℕ, ◌+◌, ◌≤◌, ◌<◌, nat_lt, Bool, true, false, List, [], ◌∷◌}
-use Rattle.prem_text.specs.Prelude.{◌++◌, Option, None, Some}
+use Rattle.std.specs.Prelude.{◌≡◌, ℕ, ◌+◌, ◌≤◌, ◌<◌, nat_lt, Bool, true, false, List, [], ◌∷◌, ◌++◌, Option, None, Some}
+use Rattle.prem_text.specs.Prelude.{Text, Expression, literal, variable, element, unary, binary, Place, UnOp, BinOp, Kind}
 use Rattle.prem_text.specs.Grammar.Expression.{infix_of, prefix_of, level_of}
 use Rattle.prem_text.specs.Grammar.Slots.{Slot, fits, text_at}
 use Rattle.prem_text.specs.Lexing.Token.Lexeme.{name, number, mark, Seen}

@@ -1,6 +1,7 @@
 -- The grammar of items and programs: phrases as they are spelled.
+use Rattle.std.specs.Prelude.{◌≡◌, ℕ, ℤ, Bool, true, false, List, [], ◌∷◌, ◌++◌, Option, None, Some}
 use Rattle.prem_text.specs.Prelude.{Expression, Parameter, LocalVariable, RegionText, MarkText, InitialValue, absent, one, many, GlobalVariable, FunctionText, ItemText, global_item}
-use Rattle.prem_text.specs.Prelude.{function_item, ProgramText, Ty, Void, Short, Ushort, Schar, Uchar, ◌≡◌, ℕ, ℤ, Bool, true, false, List, [], ◌∷◌, ◌++◌, Option, None, Some}
+use Rattle.prem_text.specs.Prelude.{function_item, ProgramText, Ty, Void, Short, Ushort, Schar, Uchar}
 use Rattle.prem_syntax.specs.declared.tree.Ty.TheVariants.{Int, Unsigned}
 use Rattle.prem_text.specs.Grammar.Item.{constant_of}
 use Rattle.prem_text.specs.Grammar.Phrases.{Phrase, spelled, tree, IsExpression, IsRow, name_at, quiet, counted}

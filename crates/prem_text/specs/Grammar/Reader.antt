@@ -1,5 +1,6 @@
 -- Reading a program, one token after the other.
-use Rattle.prem_text.specs.Prelude.{ItemText, ProgramText, Place, if◌then◌else◌, List, [], ◌∷◌, ◌++◌, Result, Ok}
+use Rattle.std.specs.Prelude.{if◌then◌else◌, List, [], ◌∷◌, ◌++◌, Result, Ok}
+use Rattle.prem_text.specs.Prelude.{ItemText, ProgramText, Place}
 use Rattle.prem_text.specs.Grammar.Item.{Stage, outside, finished, ahead, made, refused, step, is_too_deep}
 use Rattle.prem_text.specs.Lexing.Token.Lexeme.{Seen}
 use Rattle.prem_text.specs.Lexing.Token.Reading.{no_program, too_deep}

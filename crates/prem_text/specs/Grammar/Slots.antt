@@ -1,5 +1,6 @@
 -- Places for tokens in a row of which no other choice is left, as `for ( name =`.
-use Rattle.prem_text.specs.Prelude.{Text, Place, ℕ, zero, suc, Bool, true, false, List, [], ◌∷◌, Option, None, Some}
+use Rattle.std.specs.Prelude.{ℕ, zero, suc, Bool, true, false, List, [], ◌∷◌, Option, None, Some}
+use Rattle.prem_text.specs.Prelude.{Text, Place}
 use Rattle.prem_text.specs.Lexing.Token.Lexeme.{Lexeme, name, number, word, mark, end_of_text, Seen}
 use Rattle.prem_text.specs.declared.lexing.token.token.Mark.TheVariants as m
 use Rattle.prem_text.specs.declared.lexing.token.token.Word.TheVariants as w

@@ -1,7 +1,7 @@
 -- Reading the statements of a body, one token after the other.
+use Rattle.std.specs.Prelude.{ℕ, ◌-◌, Bool, true, false, ◌&&◌, not, nat_lt, if◌then◌else◌, List, [], ◌∷◌, ◌++◌, Option, None, Some}
 use Rattle.prem_text.specs.Prelude.{Text, Expression, literal, variable, element, binary, LoopNames, Statement, block, if_then, if_else, bounded_while, counting_for, assign, output, input}
-use Rattle.prem_text.specs.Prelude.{call, Statements, no_statements, next_statement, Place, BinOp, Add, Sub, Int, ℕ, ◌-◌, Bool, true, false, ◌&&◌, not, nat_lt, if◌then◌else◌, List, [], ◌∷◌}
-use Rattle.prem_text.specs.Prelude.{◌++◌, Option, None, Some}
+use Rattle.prem_text.specs.Prelude.{call, Statements, no_statements, next_statement, Place, BinOp, Add, Sub, Int}
 use Rattle.prem_text.specs.Grammar.Expression.{bottom, State, wants, named, goes, ends, stops, move}
 use Rattle.prem_text.specs.Grammar.Slots.{Slot, left_parenthesis, right_parenthesis, right_bracket, semicolon, equal_sign, plus_sign, plus_plus, plus_equal, comparison, step_sign, a_name}
 use Rattle.prem_text.specs.Grammar.Slots.{a_literal, the_while, fits, text_at, value_at, place_at, slot_at, is_else, is_in, is_left_parenthesis, is_left_bracket, is_right_brace, is_comma}

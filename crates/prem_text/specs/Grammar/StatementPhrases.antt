@@ -1,6 +1,6 @@
 -- The grammar of statements: phrases as they are spelled. Between expressions and statements stand rows of tokens.
-use Rattle.prem_text.specs.Prelude.{Text, Expression, LoopNames, Statement, block, if_then, if_else, bounded_while, counting_for, assign, output, input, call, Place, BinOp, Add, Sub, ◌≡◌, ℕ}
-use Rattle.prem_text.specs.Prelude.{suc, nat_lt, Bool, true, false, List, [], ◌∷◌, ◌++◌, Option, None, Some}
+use Rattle.std.specs.Prelude.{◌≡◌, ℕ, suc, nat_lt, Bool, true, false, List, [], ◌∷◌, ◌++◌, Option, None, Some}
+use Rattle.prem_text.specs.Prelude.{Text, Expression, LoopNames, Statement, block, if_then, if_else, bounded_while, counting_for, assign, output, input, call, Place, BinOp, Add, Sub}
 use Rattle.prem_text.specs.Grammar.Phrases.{Phrase, spelled, tree, IsExpression, IsRow, name_at, quiet, counted, opening}
 use Rattle.prem_text.specs.Grammar.Slots.{Slot, left_parenthesis, right_parenthesis, left_brace, right_brace, semicolon, comma, equal_sign, plus_sign, plus_plus, plus_equal, minus_minus}
 use Rattle.prem_text.specs.Grammar.Slots.{minus_equal, comparison, a_name, a_literal, the_if, the_else, the_for, the_while, the_bounded, the_in, the_out, value_at, place_at}

@@ -1,6 +1,6 @@
 -- The spelling of literals.
-use Rattle.prem_text.specs.Prelude.{Kind, Int, Unsigned, option_and_then, ℕ, ◌+◌, ◌-◌, ◌*◌, ◌^◌, ◌==◌, Bool, true, false, ◌||◌, ◌&&◌, if◌then◌else◌, nat_lt, nat_le, List, [], ◌∷◌, length}
-use Rattle.prem_text.specs.Prelude.{Option, None, Some, slice_index, drop}
+use Rattle.std.specs.Prelude.{ℕ, ◌+◌, ◌-◌, ◌*◌, ◌^◌, ◌==◌, Bool, true, false, ◌||◌, ◌&&◌, if◌then◌else◌, nat_lt, nat_le, List, [], ◌∷◌, length, Option, None, Some, slice_index, drop}
+use Rattle.prem_text.specs.Prelude.{Kind, Int, Unsigned, option_and_then}
 
 -- the value of a digit, or 16
 abbrev pub digit_value : ℕ → ℕ

@@ -1,6 +1,7 @@
 -- The tokens of a text, with their places.
-use Rattle.prem_text.specs.Prelude.{Place, option_map, ℕ, zero, suc, ◌+◌, ◌-◌, ◌==◌, Bool, ◌||◌, ◌&&◌, not, if◌then◌else◌, nat_lt, nat_le, List, [], ◌∷◌, length, ◌++◌, Option, None, Some}
-use Rattle.prem_text.specs.Prelude.{Result, Ok, Err, take_while, slice_index}
+use Rattle.std.specs.Prelude.{ℕ, zero, suc, ◌+◌, ◌-◌, ◌==◌, Bool, ◌||◌, ◌&&◌, not, if◌then◌else◌, nat_lt, nat_le, List, [], ◌∷◌, length, ◌++◌, Option, None, Some, Result, Ok, Err}
+use Rattle.std.specs.Prelude.{take_while, slice_index}
+use Rattle.prem_text.specs.Prelude.{Place, option_map}
 use Rattle.prem_text.specs.Lexing.Literal.{literal_word}
 use Rattle.prem_text.specs.Lexing.Spelling.{reserved_word, longest_mark}
 use Rattle.prem_text.specs.Lexing.Token.Lexeme.{Lexeme, name, number, word, mark, end_of_text, Seen}

@@ -1,5 +1,6 @@
 -- What the law of this crate says.
-use Rattle.prem_text.specs.Prelude.{ProgramText, ◌≡◌, ℕ, List, Ok}
+use Rattle.std.specs.Prelude.{◌≡◌, ℕ, List, Ok}
+use Rattle.prem_text.specs.Prelude.{ProgramText}
 use Rattle.prem_syntax.specs.Literals.{ProgramHasWords}
 use Rattle.prem_text.specs.Texts.{reads}
 

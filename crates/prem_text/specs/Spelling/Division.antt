@@ -1,5 +1,6 @@
 -- What a text's division into tokens is, apart from any reader.
-use Rattle.prem_text.specs.Prelude.{Place, ◌≡◌, ℕ, ◌+◌, ◌<◌, ◌≤◌, ◌==◌, Bool, true, false, ◌||◌, not, List, [], ◌∷◌, ◌++◌, length, reverse, take_while, count_by, codes}
+use Rattle.std.specs.Prelude.{◌≡◌, ℕ, ◌+◌, ◌<◌, ◌≤◌, ◌==◌, Bool, true, false, ◌||◌, not, List, [], ◌∷◌, ◌++◌, length, reverse, take_while, count_by, codes}
+use Rattle.prem_text.specs.Prelude.{Place}
 use Rattle.prem_text.specs.Lexing.Token.Lexeme.{Lexeme, mark, end_of_text, Seen}
 use Rattle.prem_text.specs.Lexing.Tokens.{is_name_byte, is_blank, is_printable, begins_with}
 use Rattle.prem_text.specs.Spelling.Spellings.{every, Spells}

@@ -1,5 +1,6 @@
 -- How each token is spelled.
-use Rattle.prem_text.specs.Prelude.{Kind, Int, Unsigned, ◌≡◌, ℕ, ◌+◌, ◌*◌, ◌^◌, ◌<◌, ◌≤◌, ◌==◌, Bool, true, false, ◌&&◌, ◌||◌, nat_lt, nat_le, List, [], ◌∷◌, ◌++◌, length, codes}
+use Rattle.std.specs.Prelude.{◌≡◌, ℕ, ◌+◌, ◌*◌, ◌^◌, ◌<◌, ◌≤◌, ◌==◌, Bool, true, false, ◌&&◌, ◌||◌, nat_lt, nat_le, List, [], ◌∷◌, ◌++◌, length, codes}
+use Rattle.prem_text.specs.Prelude.{Kind, Int, Unsigned}
 use Rattle.prem_text.specs.Lexing.Literal.{digit_value, is_suffix}
 use Rattle.prem_text.specs.Lexing.Spelling.{words, unused, marks}
 use Rattle.prem_text.specs.Lexing.Token.Lexeme.{Lexeme, name, number, word, mark}

@@ -1,6 +1,6 @@
 -- Statements in lists.
-use Rattle.prem_tiling.proofs.Prelude.{items_of, statement_of-Block, Statements, next_statement, block, statement_of, statements_before, statements_of, Place, Stmt, Block, only_loop, ◌≡◌}
-use Rattle.prem_tiling.proofs.Prelude.{◌≤◌, List, [], ◌∷◌, ◌++◌, length, refl, ap, sym, ◌∙◌, arith, None}
+use Rattle.std.proofs.Common.{◌≡◌, ◌≤◌, List, [], ◌∷◌, ◌++◌, length, refl, ap, sym, ◌∙◌, arith, None}
+use Rattle.prem_tiling.proofs.Prelude.{items_of, statement_of-Block, Statements, next_statement, block, statement_of, statements_before, statements_of, Place, Stmt, Block, only_loop}
 use Rattle.prem_list.specs.declared.Sequence.{Sequence}
 
 -- a block has the statements of its list

@@ -1,7 +1,7 @@
 -- Statements with calls of named tiles are statements with tiles.
+use Rattle.std.proofs.Common.{◌≡◌, ℕ, zero, suc, ◌+◌, Bool, true, false, cond, [], refl, ap, None}
 use Rattle.prem_tiling.proofs.Prelude.{Text, Statement, block, if_then, if_else, bounded_while, counting_for, assign, output, input, call, Statements, no_statements, next_statement, Place}
-use Rattle.prem_tiling.proofs.Prelude.{calls_before, with_calls, all_with_calls, tile_name, tile_names, calls_from, with_tiles, all_with_tiles, ◌≡◌, ℕ, zero, suc, ◌+◌, Bool, true, false}
-use Rattle.prem_tiling.proofs.Prelude.{cond, [], refl, ap, None, bytes_eq}
+use Rattle.prem_tiling.proofs.Prelude.{calls_before, with_calls, all_with_calls, tile_name, tile_names, calls_from, with_tiles, all_with_tiles, bytes_eq}
 
 calls_same : (at : Place) (name : Text) (n t : ℕ) → calls_before at (tile_names name t n) no_statements ≡ calls_from at name t n
 calls_same at name zero t = refl

@@ -1,10 +1,10 @@
 -- Flags say which locals a statement assigns, and where a stale one is read.
+use Rattle.std.proofs.Common.{◌≡◌, ℕ, ◌<◌, ◌≤◌, Bool, true, false, cond, not, ◌&&◌, ◌||◌, List, [], ◌∷◌, length, set, replicate, refl, ap, sym, ◌∙◌, subst, arith, Option, None, Some, IfSome}
+use Rattle.std.proofs.Common.{eqb, ◌⊎◌, inl, inr, true≢false}
 use Rattle.prem_tiling.proofs.Prelude.{within_names, number_of, Text, Expression, literal, variable, element, unary, binary, Statement, block, if_then, if_else, bounded_while, counting_for}
 use Rattle.prem_tiling.proofs.Prelude.{assign, output, input, call, Statements, no_statements, next_statement, flag_at, flagged, with_flag, assigned_flags, all_assigned_flags, read_by}
-use Rattle.prem_tiling.proofs.Prelude.{read_by_all, is_number, is_local_named, assigns, assign_within, LocalSet, first_line, is_stale, read_of, read_of_all, stale_first, ◌≡◌, ℕ, ◌<◌, ◌≤◌}
-use Rattle.prem_tiling.proofs.Prelude.{Bool, true, false, cond, not, ◌&&◌, ◌||◌, List, [], ◌∷◌, length, set, replicate, refl, ap, sym, ◌∙◌, subst, arith, Option, None, Some, IfSome, eqb}
-use Rattle.prem_tiling.proofs.Prelude.{◌⊎◌, inl, inr, true≢false, cases_lt, eqb-true, eq-eqb, length-set, get_or-set_same, get_or-set_other, get_or_past, get_or-replicate, length-replicate}
-use Rattle.prem_tiling.proofs.Prelude.{slice_set}
+use Rattle.prem_tiling.proofs.Prelude.{read_by_all, is_number, is_local_named, assigns, assign_within, LocalSet, first_line, is_stale, read_of, read_of_all, stale_first, cases_lt, eqb-true}
+use Rattle.prem_tiling.proofs.Prelude.{eq-eqb, length-set, get_or-set_same, get_or-set_other, get_or_past, get_or-replicate, length-replicate, slice_set}
 
 abbrev pub Set : List Bool → LocalSet
 Set flags = λ k. flag_at flags k

@@ -1,6 +1,6 @@
 -- What accesses add, joined.
-use Rattle.prem_tiling.proofs.Prelude.{Added, nothing, within, elsewhere, joined, ◌≡◌, refl, arith, nat_tests, ints, int_min, int_max}
-use Rattle.std.proofs.Common.{ℤ}
+use Rattle.std.proofs.Common.{ℤ, ◌≡◌, refl, arith}
+use Rattle.prem_tiling.proofs.Prelude.{Added, nothing, within, elsewhere, joined, nat_tests, ints, int_min, int_max}
 
 min_assoc : (a b c : ℤ) → int_min (int_min a b) c ≡ int_min a (int_min b c)
 min_assoc a b c = grind (arith, nat_tests, ints)

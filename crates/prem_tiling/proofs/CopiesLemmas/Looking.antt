@@ -1,5 +1,6 @@
 -- Names that are looked for among others.
-use Rattle.prem_tiling.proofs.Prelude.{has_name, Text, ◌≡◌, Bool, true, false, cond, ◌||◌, List, [], ◌∷◌, ◌++◌, map, refl, ap, sym, ◌∙◌, None, Some, bytes_eq-Decides, bytes_eq}
+use Rattle.std.proofs.Common.{◌≡◌, Bool, true, false, cond, ◌||◌, List, [], ◌∷◌, ◌++◌, map, refl, ap, sym, ◌∙◌, None, Some}
+use Rattle.prem_tiling.proofs.Prelude.{has_name, Text, bytes_eq-Decides, bytes_eq}
 use Rattle.prem_tiling.specs.Copies.Named.{found_in}
 
 -- the first of those that are left

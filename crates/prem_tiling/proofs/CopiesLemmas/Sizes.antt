@@ -1,7 +1,7 @@
 -- The numbers of a cut are small, and the body of a loop without calls stays as it is.
+use Rattle.std.proofs.Common.{◌≡◌, ℕ, ◌+◌, ◌*◌, ◌/◌, ◌<◌, ◌≤◌, false, List, refl, ap, arith, true≢false}
 use Rattle.prem_tiling.proofs.Prelude.{Text, Statement, block, if_then, if_else, bounded_while, counting_for, assign, output, input, call, Statements, no_statements, next_statement}
-use Rattle.prem_tiling.proofs.Prelude.{with_calls, all_with_calls, IsReady, has_call, have_call, turns_of, Cut, first_turn, closed_of, high_of, ◌≡◌, ℕ, ◌+◌, ◌*◌, ◌/◌, ◌<◌, ◌≤◌, false, List}
-use Rattle.prem_tiling.proofs.Prelude.{refl, ap, arith, true≢false}
+use Rattle.prem_tiling.proofs.Prelude.{with_calls, all_with_calls, IsReady, has_call, have_call, turns_of, Cut, first_turn, closed_of, high_of}
 use Rattle.prem_tiling.proofs.LawsLemmas.Cutting.{IsCut}
 use Rattle.prem_tiling.proofs.LawsLemmas.Law.{is_cut}
 use Rattle.prem_tiling.proofs.LawsLemmas.Shapes.{shape_parts}

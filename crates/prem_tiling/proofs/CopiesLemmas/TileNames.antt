@@ -1,5 +1,6 @@
 -- The names of tiles in a list.
-use Rattle.prem_tiling.proofs.Prelude.{name_bytes, Text, Name, tile_name, tile_names, ◌≡◌, ℕ, zero, suc, ◌+◌, ◌<◌, List, [], ◌∷◌, map, length, get_or, refl, ap, ◌∙◌, arith}
+use Rattle.std.proofs.Common.{◌≡◌, ℕ, zero, suc, ◌+◌, ◌<◌, List, [], ◌∷◌, map, length, get_or, refl, ap, ◌∙◌, arith}
+use Rattle.prem_tiling.proofs.Prelude.{name_bytes, Text, Name, tile_name, tile_names}
 
 first_same : (x y : Text) (xs ys : List Text) → x ∷ xs ≡ y ∷ ys → x ≡ y
 first_same x y xs ys e = cc

@@ -1,6 +1,6 @@
 -- Taking back the last local of a trail.
-use Rattle.prem_tiling.proofs.Prelude.{Walk, raised, undone, ◌≡◌, ℕ, ◌≤◌, Bool, true, List, [], ◌∷◌, ◌++◌, length, drop, refl, ap, sym, ◌∙◌, Option, drop-append-le, take-append-le}
-use Rattle.prem_tiling.proofs.Prelude.{slice_set}
+use Rattle.std.proofs.Common.{◌≡◌, ℕ, ◌≤◌, Bool, true, List, [], ◌∷◌, ◌++◌, length, drop, refl, ap, sym, ◌∙◌, Option}
+use Rattle.prem_tiling.proofs.Prelude.{Walk, raised, undone, drop-append-le, take-append-le, slice_set}
 
 abbrev pub walk_with : List Bool → List ℕ → Option ℕ → Walk
 walk_with flags trail line = record { flags = flags; trail = trail; line = line }

@@ -1,9 +1,10 @@
 -- A walk of a turn finds the first read of a stale local, and which locals are stale behind a statement.
+use Rattle.std.proofs.Common.{◌≡◌, ℕ, Bool, true, false, not, ◌&&◌, ◌||◌, List, [], ◌∷◌, ◌++◌, length, take, drop, set, replicate, refl, ap, sym, ◌∙◌, subst, Option, None, Some, eqb}
+use Rattle.std.proofs.Common.{true≢false}
 use Rattle.prem_tiling.proofs.Prelude.{number_of, Text, Expression, Statement, block, if_then, if_else, bounded_while, counting_for, assign, output, input, call, Statements, no_statements}
 use Rattle.prem_tiling.proofs.Prelude.{next_statement, Place, flag_at, read_by, read_by_option, Walk, reading, reading_option, reading_all, lowered_if, lowered, lowered_all, raised, undone}
 use Rattle.prem_tiling.proofs.Prelude.{unflagged_before, unflagged, walked, all_walked, started, LocalSet, without, behind, behind_all, first_line, read_of, read_in, read_within, carried_in}
-use Rattle.prem_tiling.proofs.Prelude.{◌≡◌, ℕ, Bool, true, false, not, ◌&&◌, ◌||◌, List, [], ◌∷◌, ◌++◌, length, take, drop, set, replicate, refl, ap, sym, ◌∙◌, subst, Option, None, Some}
-use Rattle.prem_tiling.proofs.Prelude.{eqb, true≢false, eqb-true, append-nil, set-set, set-get_or, slice_set}
+use Rattle.prem_tiling.proofs.Prelude.{eqb-true, append-nil, set-set, set-get_or, slice_set}
 use Rattle.prem_tiling.proofs.CopiesLemmas.FlagLaws.{Set, cleared_at, no_more, either_last, read_is, reads_are, started_is}
 use Rattle.std.proofs.Math.Seq.{drop-append_seam, take-append_seam}
 use Rattle.std.proofs.lemmas.List.{append_assoc}

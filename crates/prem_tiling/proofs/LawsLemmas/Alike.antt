@@ -1,18 +1,19 @@
 -- A statement does the same where calls of a function are calls of its tiles, if the calls do.
+use Rattle.std.proofs.Common.{◌≡◌, ℕ, zero, suc, ◌+◌, ◌<◌, Bool, true, false, cond, not, List, [], ◌∷◌, ◌++◌, length, map, refl, ap, sym, ◌∙◌, subst, arith, Option, None, Some, Ok, Err, eqb}
+use Rattle.std.proofs.Common.{true≢false, option_map, is_some}
+use Rattle.std.specs.Prelude.{◌&&◌, ℤ, pos, ◌+ℤ◌, int_lt, nat_lt}
 use Rattle.prem_tiling.proofs.Prelude.{Around, if_at, is_between, is_loop, is_void, is_marked_text, in_expression, in_expressions, in_call_target, in_callee, in_names, in_statement}
 use Rattle.prem_tiling.proofs.Prelude.{in_statements, Outcome, and_then, cell, or_wrong, eval, eval_all, Scope, meaning_of, find_function, resolve_term, loops_in, set_steps, input_steps}
 use Rattle.prem_tiling.proofs.Prelude.{loop_local, number_named, target_of, call_steps, resolve_statement, resolve_statements, Term, Steps, Done, Call, OfTypes, CallOrder, LoopForm}
 use Rattle.prem_tiling.proofs.Prelude.{everywhere, ProgramState, Calls, choose, value, values, with_local, stored, with_cell, store, with_output, take_input, holds, in_bound, int_local}
 use Rattle.prem_tiling.proofs.Prelude.{loop_test, loop_step, counting, with_target, run, Text, Expression, Statement, block, if_then, if_else, bounded_while, counting_for, assign, output}
 use Rattle.prem_tiling.proofs.Prelude.{input, call, Statements, no_statements, next_statement, FunctionText, Meaning, Nothing, Local as LocalName, Scalar as ScalarName, Array as ArrayName}
-use Rattle.prem_tiling.proofs.Prelude.{Function as FunctionName, Place, Ty, renumbered, MarksTiled, tile_name, calls_from, with_tiles, all_with_tiles, value_in, word_of, Int, ◌≡◌, ℕ, zero}
-use Rattle.prem_tiling.proofs.Prelude.{suc, ◌+◌, ◌<◌, Bool, true, false, cond, not, List, [], ◌∷◌, ◌++◌, length, map, refl, ap, sym, ◌∙◌, subst, arith, Option, None, Some, Ok, Err, eqb}
-use Rattle.prem_tiling.proofs.Prelude.{true≢false, option_map, is_some, eqb-true, ℤ, pos, ◌+ℤ◌, int_lt, nat_lt, bytes_eq}
+use Rattle.prem_tiling.proofs.Prelude.{Function as FunctionName, Place, Ty, renumbered, MarksTiled, tile_name, calls_from, with_tiles, all_with_tiles, value_in, word_of, Int, eqb-true}
+use Rattle.prem_tiling.proofs.Prelude.{bytes_eq}
 use Rattle.prem_syntax.specs.Rules.{MarkedCall as MarkedCallRule}
 use Rattle.prem_tiling.proofs.LawsLemmas.Formed.{none_left, none_right, kept_rule}
 use Rattle.prem_tiling.proofs.LawsLemmas.Joint.{Joint, fine, wrong, joint_then, same_then, counting_joint, bounded_joint}
 use Rattle.prem_tiling.proofs.LawsLemmas.Terms.{with_functions, same_term, same_terms, same_set, same_input, same_variable, same_target}
-use Rattle.std.specs.Prelude.{◌&&◌}
 use Rattle.prem_syntax.specs.declared.rules.TypeRule.TheVariants as rule
 
 -- ---- states

@@ -1,12 +1,12 @@
 -- Callees stand before their callers; and those in a program with tiles are tiles, or were callees.
+use Rattle.std.proofs.Common.{◌≡◌, ℕ, zero, suc, ◌+◌, ◌<◌, ◌≤◌, Bool, true, false, cond, not, ◌&&◌, ◌||◌, List, [], ◌∷◌, ◌++◌, length, map, refl, ap, sym, ◌∙◌, subst, arith, Option, None}
+use Rattle.std.proofs.Common.{Some, eqb, ltb, is_some, ◌⊎◌, inl, inr, ⊎_elim, true≢false, slice_index_or}
 use Rattle.prem_tiling.proofs.Prelude.{Around, around, if_at, in_expression, in_expressions, in_call_target, in_callee, in_names, is_between, is_loop, is_void, is_marked_text, in_statement}
 use Rattle.prem_tiling.proofs.Prelude.{in_statements, in_option, in_regions, regions_of, in_heading, in_parameters, in_locals, parameter_texts, callee_number, callees, callees_within}
 use Rattle.prem_tiling.proofs.Prelude.{in_function, in_global, in_items, has_number, is_in_set, find_function, functions_of, scope_at, scope_in, CallOrder, OfTypes, LoopForm, Text}
 use Rattle.prem_tiling.proofs.Prelude.{Expression, Statement, block, if_then, if_else, bounded_while, counting_for, assign, output, input, call, Statements, no_statements, next_statement}
 use Rattle.prem_tiling.proofs.Prelude.{FunctionText, global_item, function_item, ProgramText, GlobalVariable, Place, renumbered, has_call, have_call, Cut, tile_name, calls_from, with_tiles}
-use Rattle.prem_tiling.proofs.Prelude.{all_with_tiles, ◌≡◌, ℕ, zero, suc, ◌+◌, ◌<◌, ◌≤◌, Bool, true, false, cond, not, ◌&&◌, ◌||◌, List, [], ◌∷◌, ◌++◌, length, map, refl, ap, sym, ◌∙◌}
-use Rattle.prem_tiling.proofs.Prelude.{subst, arith, Option, None, Some, eqb, ltb, is_some, ◌⊎◌, inl, inr, ⊎_elim, true≢false, slice_index_or, or_cases, eqb-true, eq-eqb, ltb-true}
-use Rattle.prem_tiling.proofs.Prelude.{slice_get, bytes_eq}
+use Rattle.prem_tiling.proofs.Prelude.{all_with_tiles, or_cases, eqb-true, eq-eqb, ltb-true, slice_get, bytes_eq}
 use Rattle.prem_syntax.specs.Rules.{MarkedCall}
 use Rattle.prem_tiling.proofs.LawsLemmas.Formed.{none_left, none_right, kept_rule_not}
 use Rattle.prem_tiling.proofs.LawsLemmas.Reached.{Old, IsTile}

@@ -1,7 +1,8 @@
 -- Calls by number: those of a program, and those of the one with tiles.
-use Rattle.prem_tiling.proofs.Prelude.{and_then, Routine, access_of, enter_if_there, this_or, calls_below, everywhere, unlimited, ProgramState, Calls, is_marked, enter, renumbered, ◌≡◌, ℕ}
-use Rattle.prem_tiling.proofs.Prelude.{zero, suc, ◌+◌, ◌-◌, ◌<◌, ◌≤◌, Bool, true, false, cond, List, [], ◌∷◌, length, refl, ap, sym, ◌∙◌, subst, arith, Option, None, Some, Err, ◌⊎◌, inl}
-use Rattle.prem_tiling.proofs.Prelude.{inr, ⊎_elim, cases_lt, cases_eq, eq-eqb, ne_eqb, lt-ltb, le-ltb, slice_get}
+use Rattle.std.proofs.Common.{◌≡◌, ℕ, zero, suc, ◌+◌, ◌-◌, ◌<◌, ◌≤◌, Bool, true, false, cond, List, [], ◌∷◌, length, refl, ap, sym, ◌∙◌, subst, arith, Option, None, Some, Err, ◌⊎◌, inl, inr}
+use Rattle.std.proofs.Common.{⊎_elim}
+use Rattle.prem_tiling.proofs.Prelude.{and_then, Routine, access_of, enter_if_there, this_or, calls_below, everywhere, unlimited, ProgramState, Calls, is_marked, enter, renumbered, cases_lt}
+use Rattle.prem_tiling.proofs.Prelude.{cases_eq, eq-eqb, ne_eqb, lt-ltb, le-ltb, slice_get}
 use Rattle.prem_tiling.proofs.LawsLemmas.Alike.{Alike, calls_all, CallsAlike}
 use Rattle.prem_tiling.proofs.LawsLemmas.Joint.{Joint, wrong}
 

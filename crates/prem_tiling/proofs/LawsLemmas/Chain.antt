@@ -1,7 +1,8 @@
 -- The turns of a loop are those of its tiles: one tile begins where the one before it ended.
+use Rattle.std.proofs.Common.{◌≡◌, ℕ, zero, suc, ◌+◌, ◌-◌, ◌*◌, ◌≤◌, Bool, true, false, ◌||◌, List, [], ◌∷◌, ◌++◌, length, set, refl, ap, sym, ◌∙◌, subst, arith, Ok, eqb, true≢false}
+use Rattle.std.proofs.Common.{append_assoc}
 use Rattle.prem_tiling.proofs.Prelude.{Around, Outcome, and_then, Access, Routine, ProgramState, MarkedCall, Calls, with_local, is_marked, leave, with_mark, Text, Statement, AreTiles}
-use Rattle.prem_tiling.proofs.Prelude.{stale_first, ◌≡◌, ℕ, zero, suc, ◌+◌, ◌-◌, ◌*◌, ◌≤◌, Bool, true, false, ◌||◌, List, [], ◌∷◌, ◌++◌, length, set, refl, ap, sym, ◌∙◌, subst, arith, Ok}
-use Rattle.prem_tiling.proofs.Prelude.{eqb, true≢false, append_assoc, eqb-true, length-set, get_or-set_same, append-nil, slice_index}
+use Rattle.prem_tiling.proofs.Prelude.{stale_first, eqb-true, length-set, get_or-set_same, append-nil, slice_index}
 use Rattle.prem_tiling.proofs.LawsLemmas.Joint.{Joint, fine, wrong, joint_then, joint_mapped}
 use Rattle.prem_tiling.proofs.LawsLemmas.Laps.{laps, laps_add, laps_joint, Cuttable, turn_by, Lap, turn_lap}
 use Rattle.prem_tiling.proofs.LawsLemmas.Tied.{index-set_other, bare}

@@ -1,8 +1,8 @@
 -- A call of a function does what calls of its tiles do, one behind the other.
+use Rattle.std.proofs.Common.{◌≡◌, ℕ, zero, suc, ◌+◌, ◌-◌, ◌*◌, ◌<◌, ◌≤◌, Bool, true, false, List, [], ◌∷◌, ◌++◌, refl, ap, sym, ◌∙◌, subst, arith, None, Ok, Err, eqb, ltb, true≢false}
 use Rattle.prem_tiling.proofs.Prelude.{Around, Outcome, and_then, resolve_statement, Constant, Steps, Done, For, Routine, everywhere, ProgramState, MarkedCall, Calls, with_local, in_bound}
 use Rattle.prem_tiling.proofs.Prelude.{loop_test, loop_step, counting, run, declare, result_of, with_mark, is_marked, leave, enter, Text, Statement, Place, AreTiles, MarksTiled, no_marks}
-use Rattle.prem_tiling.proofs.Prelude.{tile_marks, stale_first, value_in, Kind, Int, ◌≡◌, ℕ, zero, suc, ◌+◌, ◌-◌, ◌*◌, ◌<◌, ◌≤◌, Bool, true, false, List, [], ◌∷◌, ◌++◌, refl, ap, sym, ◌∙◌}
-use Rattle.prem_tiling.proofs.Prelude.{subst, arith, None, Ok, Err, eqb, ltb, true≢false, mul-zero, append-nil, length-set, get_or-set_same}
+use Rattle.prem_tiling.proofs.Prelude.{tile_marks, stale_first, value_in, Kind, Int, mul-zero, append-nil, length-set, get_or-set_same}
 use Rattle.prem_tiling.proofs.LawsLemmas.Alike.{Alike, calls_all}
 use Rattle.prem_tiling.proofs.LawsLemmas.Chain.{joint_here, fresh, Mid, tile_call, tiles_run, Ended, all_tiles}
 use Rattle.prem_tiling.proofs.LawsLemmas.Enter.{marks_append}

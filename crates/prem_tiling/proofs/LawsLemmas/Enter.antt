@@ -1,7 +1,7 @@
 -- Calls of functions: of one that has no tiles, and of the one that has.
+use Rattle.std.proofs.Common.{◌≡◌, ℕ, Bool, true, false, List, [], ◌∷◌, ◌++◌, refl, ap, sym, ◌∙◌, subst, Option, None, Some, Ok, append_assoc}
 use Rattle.prem_tiling.proofs.Prelude.{and_then, eval, Term, Routine, everywhere, ProgramState, MarkedCall, Calls, value, run, with_new_local, declare, result_of, with_mark, is_marked}
-use Rattle.prem_tiling.proofs.Prelude.{leave, enter, renumbered, MarksTiled, no_marks, other_mark, tile_marks, ◌≡◌, ℕ, Bool, true, false, List, [], ◌∷◌, ◌++◌, refl, ap, sym, ◌∙◌, subst}
-use Rattle.prem_tiling.proofs.Prelude.{Option, None, Some, Ok, append_assoc}
+use Rattle.prem_tiling.proofs.Prelude.{leave, enter, renumbered, MarksTiled, no_marks, other_mark, tile_marks}
 use Rattle.prem_tiling.proofs.LawsLemmas.Alike.{Alike}
 use Rattle.prem_tiling.proofs.LawsLemmas.Joint.{Joint, fine, joint_then, same_then}
 

@@ -1,7 +1,8 @@
 -- What unbroken rules say of statements.
+use Rattle.std.proofs.Common.{◌≡◌, ℕ, Bool, true, false, cond, not, ◌&&◌, List, [], ◌∷◌, ◌++◌, refl, Option, None, Some}
 use Rattle.prem_tiling.proofs.Prelude.{if_at, same_name, is_int_local, is_int, is_between, is_loop, Scope, meaning_of, resolve_term, kind_of, loop_local, local_number, Rule, Breach, first}
 use Rattle.prem_tiling.proofs.Prelude.{first_of, Expression, LoopNames, Statement, Meaning, Nothing, Local as LocalName, Scalar as ScalarName, Array as ArrayName, Function as FunctionName}
-use Rattle.prem_tiling.proofs.Prelude.{Place, ◌≡◌, ℕ, Bool, true, false, cond, not, ◌&&◌, List, [], ◌∷◌, ◌++◌, refl, Option, None, Some, and_parts, not-true}
+use Rattle.prem_tiling.proofs.Prelude.{Place, and_parts, not-true}
 use Rattle.prem_syntax.specs.Breaches.{assigns}
 
 pub none_left : {A : Type 0} (xs ys : List A) → xs ++ ys ≡ [] → xs ≡ []

@@ -1,7 +1,8 @@
 -- The functions of a program and of the one with tiles, by name and with what stands at their numbers.
-use Rattle.prem_tiling.proofs.Prelude.{is_marked_text, find_named, find_function, number_named, Text, FunctionText, renumbered, Cut, tile_name, tile_of, function_with_tiles, ◌≡◌, ℕ, zero}
-use Rattle.prem_tiling.proofs.Prelude.{suc, ◌+◌, ◌-◌, ◌<◌, ◌≤◌, Bool, true, false, cond, List, [], ◌∷◌, ◌++◌, length, map, refl, ap, sym, ◌∙◌, arith, Option, None, Some, option_map, ◌⊎◌}
-use Rattle.prem_tiling.proofs.Prelude.{inl, inr, cases_lt, length-map, length-append, slice_get, bytes_eq}
+use Rattle.std.proofs.Common.{◌≡◌, ℕ, zero, suc, ◌+◌, ◌-◌, ◌<◌, ◌≤◌, Bool, true, false, cond, List, [], ◌∷◌, ◌++◌, length, map, refl, ap, sym, ◌∙◌, arith, Option, None, Some, option_map}
+use Rattle.std.proofs.Common.{◌⊎◌, inl, inr}
+use Rattle.prem_tiling.proofs.Prelude.{is_marked_text, find_named, find_function, number_named, Text, FunctionText, renumbered, Cut, tile_name, tile_of, function_with_tiles, cases_lt}
+use Rattle.prem_tiling.proofs.Prelude.{length-map, length-append, slice_get, bytes_eq}
 use Rattle.prem_tiling.proofs.LawsLemmas.Alike.{Renamed}
 use Rattle.prem_tiling.proofs.LawsLemmas.Calls.{slice_get_there, renumbered_below, renumbered_above, above_first}
 use Rattle.prem_tiling.proofs.LawsLemmas.Placed.{tile_functions, tiles_count}

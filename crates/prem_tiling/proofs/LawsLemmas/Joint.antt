@@ -1,5 +1,6 @@
 -- Two outcomes that go wrong at one line, or give states that stand in a relation; and loops that keep it.
-use Rattle.prem_tiling.proofs.Prelude.{Outcome, and_then, ProgramState, choose, counting, bounded, ◌≡◌, ℕ, zero, suc, Bool, true, false, subst, Ok, Err}
+use Rattle.std.proofs.Common.{◌≡◌, ℕ, zero, suc, Bool, true, false, subst, Ok, Err}
+use Rattle.prem_tiling.proofs.Prelude.{Outcome, and_then, ProgramState, choose, counting, bounded}
 
 pub data Joint {A B : Type 0} (P : A → B → Type 0) : Outcome A → Outcome B → Type 0 where
   fine : {x : A} {y : B} → P x y → Joint P (Ok x) (Ok y)

@@ -1,8 +1,9 @@
 -- A counting loop is so many turns, one behind the other; so are its tiles, each of which begins with new locals.
+use Rattle.std.proofs.Common.{◌≡◌, ℕ, zero, suc, ◌+◌, ◌*◌, ◌<◌, ◌≤◌, Bool, true, false, cond, ◌||◌, List, [], length, refl, ap, sym, ◌∙◌, subst, arith, None, Ok, Err, eqb, ltb}
+use Rattle.std.specs.Prelude.{ℤ, pos, ◌+ℤ◌, ◌≤ℤ◌, int_lt, slice_index}
 use Rattle.prem_tiling.proofs.Prelude.{Around, in_statement, Outcome, and_then, Access, resolve_statement, Steps, Done, ProgramState, MarkedCall, Calls, choose, with_local, int_local}
-use Rattle.prem_tiling.proofs.Prelude.{loop_step, counting, run, Text, Statement, assigns, LocalSet, stale_first, behind, carried_in, has_call, value_in, word_of, Int, ◌≡◌, ℕ, zero, suc}
-use Rattle.prem_tiling.proofs.Prelude.{◌+◌, ◌*◌, ◌<◌, ◌≤◌, Bool, true, false, cond, ◌||◌, List, [], length, refl, ap, sym, ◌∙◌, subst, arith, None, Ok, Err, eqb, ltb, lt-ltb, le-ltb, ints}
-use Rattle.prem_tiling.proofs.Prelude.{length-set, get_or-set_same, ℤ, pos, ◌+ℤ◌, ◌≤ℤ◌, int_lt, slice_index}
+use Rattle.prem_tiling.proofs.Prelude.{loop_step, counting, run, Text, Statement, assigns, LocalSet, stale_first, behind, carried_in, has_call, value_in, word_of, Int, lt-ltb, le-ltb, ints}
+use Rattle.prem_tiling.proofs.Prelude.{length-set, get_or-set_same}
 use Rattle.prem_tiling.proofs.LawsLemmas.Joint.{Joint, fine, wrong, joint_then, joint_mapped}
 use Rattle.prem_tiling.proofs.LawsLemmas.Numbers.{small_is_itself, word_is_itself, next_value}
 use Rattle.prem_tiling.proofs.LawsLemmas.Tied.{neither_left, neither_right, index-set_other, set_alike, Numbered, bare, Tied}

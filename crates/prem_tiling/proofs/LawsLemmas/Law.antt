@@ -1,4 +1,6 @@
 -- A program with tiles does what the program did.
+use Rattle.std.proofs.Common.{◌≡◌, ℕ, zero, suc, ◌+◌, ◌-◌, ◌*◌, ◌/◌, ◌^◌, ◌<◌, ◌≤◌, Bool, true, false, cond, not, ◌||◌, List, [], ◌∷◌, ◌++◌, length, map, refl, ap, sym, ◌∙◌, subst, arith}
+use Rattle.std.proofs.Common.{Option, None, Some, option_map, unwrap_or, ltb, is_some, ⊎_elim, true≢false, IfSome}
 use Rattle.prem_tiling.proofs.Prelude.{within_names, number_of, Around, around, if_at, if_broken, is_job_name, is_loop, in_names, in_expression, in_regions, regions_of, in_heading}
 use Rattle.prem_tiling.proofs.Prelude.{in_parameters, in_locals, in_statement, in_statements, in_option, parameter_texts, in_function, in_items, item_names, in_limits, has_name, reached}
 use Rattle.prem_tiling.proofs.Prelude.{Outcome, IsWellFormed, is_in_set, Scope, find_named, find_function, number_named, meaning_of, loop_local, resolve_term, resolve_statement}
@@ -6,9 +8,8 @@ use Rattle.prem_tiling.proofs.Prelude.{resolve_statements, parameter_names, loca
 use Rattle.prem_tiling.proofs.Prelude.{Steps, Done, For, Routine, Resolved, NoJob, LoopForm, calls_below, everywhere, unlimited, start, do_jobs, source, initial_words, ProgramState, Calls}
 use Rattle.prem_tiling.proofs.Prelude.{enter, Text, MarkText, LocalVariable, GlobalVariable, FunctionText, function_item, ProgramText, CanCut, renumbered, no_marks, AreSame, names_of, Loop}
 use Rattle.prem_tiling.proofs.Prelude.{bound_of, turns_of, Cut, tile_name, first_turn, is_last, low_of, closed_of, high_of, tile_mark, tile_of, tiles_from, function_with_tiles, tiled}
-use Rattle.prem_tiling.proofs.Prelude.{used_names, ◌≡◌, ℕ, zero, suc, ◌+◌, ◌-◌, ◌*◌, ◌/◌, ◌^◌, ◌<◌, ◌≤◌, Bool, true, false, cond, not, ◌||◌, List, [], ◌∷◌, ◌++◌, length, map, refl, ap, sym}
-use Rattle.prem_tiling.proofs.Prelude.{◌∙◌, subst, arith, Option, None, Some, option_map, unwrap_or, ltb, is_some, ⊎_elim, true≢false, IfSome, mul-lt-mul_of_pos_right, mul_comm}
-use Rattle.prem_tiling.proofs.Prelude.{div-lt_iff_lt-mul, cases_lt, lt-ltb, ltb-true, eqb-true, eq-eqb, length-map, length-append, list_any, slice_get, codes}
+use Rattle.prem_tiling.proofs.Prelude.{used_names, mul-lt-mul_of_pos_right, mul_comm, div-lt_iff_lt-mul, cases_lt, lt-ltb, ltb-true, eqb-true, eq-eqb, length-map, length-append, list_any}
+use Rattle.prem_tiling.proofs.Prelude.{slice_get, codes}
 use Rattle.prem_tiling.proofs.LawsLemmas.Alike.{Alike, Renamed, CallsAlike, statements_alike}
 use Rattle.prem_tiling.proofs.LawsLemmas.Calls.{AreCut, all_calls, renumbered_above}
 use Rattle.prem_tiling.proofs.LawsLemmas.Cutting.{IsLoopRoutine, IsCut, function_alike}

@@ -1,8 +1,9 @@
 -- Of the limits of programs, one with tiles can only be past that on functions.
+use Rattle.std.proofs.Common.{◌≡◌, ℕ, zero, suc, ◌+◌, ◌≤◌, Bool, true, false, not, ◌||◌, List, [], ◌∷◌, ◌++◌, length, map, refl, ap, sym, ◌∙◌, subst, Option, None, Some, option_map}
+use Rattle.std.proofs.Common.{true≢false, is_some}
 use Rattle.prem_tiling.proofs.Prelude.{if_broken, is_job_name, regions_of, is_stated, is_length, in_limits, in_items, item_names, reached, IsWellFormed, globals_of, functions_of, Rule}
 use Rattle.prem_tiling.proofs.Prelude.{Limit, NoJob, Breach, MarkText, GlobalVariable, FunctionText, function_item, ProgramText, CanCut, has_breach, Cut, tile_region, tile_mark, tile_of}
-use Rattle.prem_tiling.proofs.Prelude.{function_with_tiles, tiled, ◌≡◌, ℕ, zero, suc, ◌+◌, ◌≤◌, Bool, true, false, not, ◌||◌, List, [], ◌∷◌, ◌++◌, length, map, refl, ap, sym, ◌∙◌, subst}
-use Rattle.prem_tiling.proofs.Prelude.{Option, None, Some, option_map, true≢false, is_some, and_from, le-leb, length-map, list_any, nat_lt, nat_le}
+use Rattle.prem_tiling.proofs.Prelude.{function_with_tiles, tiled, and_from, le-leb, length-map, list_any, nat_lt, nat_le}
 use Rattle.prem_syntax.specs.declared.rules.Count.TheVariants.{Functions, Globals, Parameters, Regions, Length, Stated}
 use Rattle.prem_tiling.proofs.LawsLemmas.Formed.{none_left, none_right}
 use Rattle.prem_tiling.proofs.LawsLemmas.Lists.{split_at}

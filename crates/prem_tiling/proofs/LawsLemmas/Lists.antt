@@ -1,10 +1,11 @@
 -- Programs in parts: the items before a function and those behind it.
+use Rattle.std.proofs.Common.{◌≡◌, ℕ, suc, ◌+◌, Bool, true, false, cond, ◌||◌, List, [], ◌∷◌, ◌++◌, length, map, refl, ap, sym, ◌∙◌, arith, Option, None, Some, option_map, true≢false}
+use Rattle.std.proofs.Common.{append_assoc, is_some}
 use Rattle.prem_tiling.proofs.Prelude.{number_of, has_name, in_global, in_function, in_items, item_names, is_in_set, Scope, find_named, number_named, meaning_of, resolve_term, loops_in}
 use Rattle.prem_tiling.proofs.Prelude.{loops_within, loop_local, set_steps, input_steps, call_steps, target_of, resolve_statement, resolve_statements, scope_in, resolve_function}
 use Rattle.prem_tiling.proofs.Prelude.{resolve_items, globals_of, functions_of, Steps, Done, Output, If, For, While, Text, Statement, block, if_then, if_else, bounded_while, counting_for}
 use Rattle.prem_tiling.proofs.Prelude.{assign, output, input, call, Statements, no_statements, next_statement, GlobalVariable, FunctionText, global_item, function_item, ProgramText}
-use Rattle.prem_tiling.proofs.Prelude.{is_marked_as, marked_named, ◌≡◌, ℕ, suc, ◌+◌, Bool, true, false, cond, ◌||◌, List, [], ◌∷◌, ◌++◌, length, map, refl, ap, sym, ◌∙◌, arith, Option, None}
-use Rattle.prem_tiling.proofs.Prelude.{Some, option_map, true≢false, append_assoc, is_some, and_parts, append-nil, bytes_eq-Decides, bytes_eq}
+use Rattle.prem_tiling.proofs.Prelude.{is_marked_as, marked_named, and_parts, append-nil, bytes_eq-Decides, bytes_eq}
 
 -- ---- numbers of names
 

@@ -1,9 +1,10 @@
 -- Functions and items that break no rule break none in the program with tiles.
+use Rattle.std.proofs.Common.{◌≡◌, ℕ, suc, ◌+◌, ◌<◌, ◌≤◌, Bool, true, false, not, ◌&&◌, ◌||◌, List, [], ◌∷◌, ◌++◌, length, map, refl, ap, ◌∙◌, subst, arith, is_some, is_none, eqb, ⊎_elim}
+use Rattle.std.proofs.Common.{◌⊎◌, inl, inr}
 use Rattle.prem_tiling.proofs.Prelude.{around, if_at, has_name, is_void, is_narrow, is_range, is_job_name, is_marked_text, is_initial, in_declared, in_parameters, in_locals, in_expression}
 use Rattle.prem_tiling.proofs.Prelude.{in_regions, regions_of, in_heading, in_statements, in_option, parameter_texts, in_function, in_global, in_items, is_in_set, Scope, declared, scope_at}
 use Rattle.prem_tiling.proofs.Prelude.{scope_in, functions_of, Twice, OfTypes, Text, Parameter, LocalVariable, GlobalVariable, FunctionText, global_item, function_item, ProgramText, Place}
-use Rattle.prem_tiling.proofs.Prelude.{Ty, renumbered, names_of, Cut, tile_name, function_with_tiles, used_names, ◌≡◌, ℕ, suc, ◌+◌, ◌<◌, ◌≤◌, Bool, true, false, not, ◌&&◌, ◌||◌, List, []}
-use Rattle.prem_tiling.proofs.Prelude.{◌∷◌, ◌++◌, length, map, refl, ap, ◌∙◌, subst, arith, is_some, is_none, eqb, ⊎_elim, ◌⊎◌, inl, inr, bytes_eq}
+use Rattle.prem_tiling.proofs.Prelude.{Ty, renumbered, names_of, Cut, tile_name, function_with_tiles, used_names, bytes_eq}
 use Rattle.prem_tiling.proofs.LawsLemmas.Calls.{renumbered_suc}
 use Rattle.prem_tiling.proofs.LawsLemmas.Formed.{none_left, none_right, none_both, kept_rule}
 use Rattle.prem_tiling.proofs.LawsLemmas.Limits.{none_either}

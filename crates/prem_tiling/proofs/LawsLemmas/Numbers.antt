@@ -1,8 +1,9 @@
 -- Turns of a loop and of its tiles, by numbers.
-use Rattle.prem_tiling.proofs.Prelude.{in_bound, turns_between, value_in, word_of, Int, ◌≡◌, ℕ, zero, suc, ◌+◌, ◌-◌, ◌*◌, ◌/◌, ◌%◌, ◌<◌, ◌≤◌, min, Bool, true, false, cond, not, refl, ap}
-use Rattle.prem_tiling.proofs.Prelude.{sym, ◌∙◌, arith, ltb, leb, ◌⊎◌, inl, inr, ⊎_elim, mul_comm, mul-suc, mul-le-mul_left, mul-le-mul_right, zero-mul, mul-lt-mul_of_pos_left, mod-lt}
+use Rattle.std.proofs.Common.{◌≡◌, ℕ, zero, suc, ◌+◌, ◌-◌, ◌*◌, ◌/◌, ◌%◌, ◌<◌, ◌≤◌, min, Bool, true, false, cond, not, refl, ap, sym, ◌∙◌, arith, ltb, leb, ◌⊎◌, inl, inr, ⊎_elim}
+use Rattle.std.specs.Prelude.{pos, ◌+ℤ◌, int_lt}
+use Rattle.prem_tiling.proofs.Prelude.{in_bound, turns_between, value_in, word_of, Int, mul_comm, mul-suc, mul-le-mul_left, mul-le-mul_right, zero-mul, mul-lt-mul_of_pos_left, mod-lt}
 use Rattle.prem_tiling.proofs.Prelude.{div-add-mod, le-mul_of_pos_right, le-div_iff_mul-le, div-mul-le_self, div-eq_of_lt, mul-div_cancel_left, cases_lt, lt-ltb, le-ltb, ltb-true, leb-true}
-use Rattle.prem_tiling.proofs.Prelude.{leb-false, ints, div_ceil, pos, ◌+ℤ◌, int_lt}
+use Rattle.prem_tiling.proofs.Prelude.{leb-false, ints, div_ceil}
 
 -- a test is decided by what it tests
 pub same_test : (a b c d : ℕ) → (a < b → c < d) → (b ≤ a → d ≤ c) → ltb a b ≡ ltb c d

@@ -1,9 +1,9 @@
 -- The functions of a program and of the one with tiles, by name and by number.
+use Rattle.std.proofs.Common.{◌≡◌, ℕ, zero, suc, ◌+◌, ◌^◌, ◌<◌, ◌≤◌, Bool, true, false, cond, ◌||◌, List, [], ◌∷◌, ◌++◌, length, map, refl, ap, sym, ◌∙◌, arith, None, Some, option_map}
+use Rattle.std.proofs.Common.{true≢false, append_assoc}
 use Rattle.prem_tiling.proofs.Prelude.{number_of, has_name, in_global, in_regions, regions_of, in_heading, in_function, in_items, item_names, parameter_texts, is_in_set, globals_of}
 use Rattle.prem_tiling.proofs.Prelude.{functions_of, scope_at, Twice, Text, GlobalVariable, FunctionText, ItemText, global_item, function_item, ProgramText, names_of, Cut, tile_name}
-use Rattle.prem_tiling.proofs.Prelude.{tile_of, tiles_from, function_with_tiles, item_with_tiles, tiled, used_names, ◌≡◌, ℕ, zero, suc, ◌+◌, ◌^◌, ◌<◌, ◌≤◌, Bool, true, false, cond, ◌||◌}
-use Rattle.prem_tiling.proofs.Prelude.{List, [], ◌∷◌, ◌++◌, length, map, refl, ap, sym, ◌∙◌, arith, None, Some, option_map, true≢false, append_assoc, bytes_eq-Decides, codes, decimal}
-use Rattle.prem_tiling.proofs.Prelude.{bytes_eq}
+use Rattle.prem_tiling.proofs.Prelude.{tile_of, tiles_from, function_with_tiles, item_with_tiles, tiled, used_names, bytes_eq-Decides, codes, decimal, bytes_eq}
 use Rattle.prem_tiling.proofs.LawsLemmas.Formed.{none_left, none_right, kept_rule}
 use Rattle.prem_tiling.proofs.LawsLemmas.Lists.{names_of_functions}
 use Rattle.prem_tiling.proofs.LawsLemmas.Tied.{neither_left, neither_right}

@@ -1,10 +1,10 @@
 -- Statements without calls, and regions, break no rule in a tile.
+use Rattle.std.proofs.Common.{◌≡◌, ℕ, ◌≤◌, Bool, true, false, cond, not, ◌||◌, List, [], ◌∷◌, ◌++◌, map, refl, ap, sym, ◌∙◌, arith, Option, None, Some, unwrap_or, true≢false, ◌⊎◌, inl, inr}
+use Rattle.std.specs.Prelude.{ℤ, pos, nat_lt, nat_le, int_le, unsigned_abs, ◌+ℤ◌}
 use Rattle.prem_tiling.proofs.Prelude.{Around, if_at, in_expression, in_option, in_assigned, in_target, in_names, is_between, is_loop, in_statement, in_statements, in_region, in_regions}
 use Rattle.prem_tiling.proofs.Prelude.{Scope, find_global, meaning_of, SystemCall, LoopForm, OfTypes, Text, Expression, Statement, block, if_then, if_else, bounded_while, counting_for}
 use Rattle.prem_tiling.proofs.Prelude.{assign, output, input, call, Statements, no_statements, next_statement, RegionText, GlobalVariable, FunctionText, Place, Added, nothing, within}
-use Rattle.prem_tiling.proofs.Prelude.{elsewhere, added_in, cut_to, narrowed, has_call, have_call, Cut, low_of, last_of, tile_region, ◌≡◌, ℕ, ◌≤◌, Bool, true, false, cond, not, ◌||◌, List}
-use Rattle.prem_tiling.proofs.Prelude.{[], ◌∷◌, ◌++◌, map, refl, ap, sym, ◌∙◌, arith, Option, None, Some, unwrap_or, true≢false, ◌⊎◌, inl, inr, nat_tests, ints, int_min, int_max, ℤ, pos}
-use Rattle.prem_tiling.proofs.Prelude.{nat_lt, nat_le, int_le, unsigned_abs, ◌+ℤ◌}
+use Rattle.prem_tiling.proofs.Prelude.{elsewhere, added_in, cut_to, narrowed, has_call, have_call, Cut, low_of, last_of, tile_region, nat_tests, ints, int_min, int_max}
 use Rattle.prem_tiling.proofs.LawsLemmas.Formed.{none_left, none_right, none_both, kept_rule, kept_rule_not, loop_parts}
 use Rattle.prem_tiling.proofs.LawsLemmas.Rules.{unbroken, expression_formed, option_formed, assigned_formed, target_kept, names_formed, form_kept, same_of_parts}
 use Rattle.prem_tiling.proofs.LawsLemmas.Terms.{with_functions}

@@ -1,6 +1,7 @@
 -- What marked functions reach in a program with tiles, they reach without.
-use Rattle.prem_tiling.proofs.Prelude.{has_number, is_in_set, called_by, with_called, reached_by, renumbered, ◌≡◌, ℕ, zero, suc, ◌+◌, ◌-◌, ◌<◌, ◌≤◌, Bool, true, ◌&&◌, List, [], ◌∷◌, length}
-use Rattle.prem_tiling.proofs.Prelude.{refl, ap, sym, ◌∙◌, subst, arith, ◌⊎◌, inl, inr, ⊎_elim, true≢false, slice_index_or, or_cases, and_parts, and_from}
+use Rattle.std.proofs.Common.{◌≡◌, ℕ, zero, suc, ◌+◌, ◌-◌, ◌<◌, ◌≤◌, Bool, true, ◌&&◌, List, [], ◌∷◌, length, refl, ap, sym, ◌∙◌, subst, arith, ◌⊎◌, inl, inr, ⊎_elim, true≢false}
+use Rattle.std.proofs.Common.{slice_index_or}
+use Rattle.prem_tiling.proofs.Prelude.{has_number, is_in_set, called_by, with_called, reached_by, renumbered, or_cases, and_parts, and_from}
 use Rattle.prem_tiling.proofs.LawsLemmas.Tied.{either_left, either_right}
 
 -- ---- one round

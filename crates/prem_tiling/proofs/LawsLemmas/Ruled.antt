@@ -1,12 +1,12 @@
 -- A program with tiles breaks no rule.
+use Rattle.std.proofs.Common.{◌≡◌, ℕ, zero, suc, ◌+◌, ◌-◌, ◌<◌, ◌≤◌, Bool, true, false, not, ◌&&◌, ◌||◌, List, [], ◌∷◌, ◌++◌, length, map, refl, ap, sym, ◌∙◌, subst, arith, Option, None}
+use Rattle.std.proofs.Common.{Some, option_map, eqb, is_some, is_none, ◌⊎◌, inl, inr, ⊎_elim, true≢false, append_assoc, slice_index_or, IsTrue}
 use Rattle.prem_tiling.proofs.Prelude.{Around, around, if_at, if_broken, is_job_name, is_marked_text, is_narrow, is_void, is_loop, in_names, in_expression, in_regions, regions_of}
 use Rattle.prem_tiling.proofs.Prelude.{in_heading, in_parameters, in_locals, in_statement, in_statements, in_option, parameter_texts, callees, callees_within, in_function, in_items}
 use Rattle.prem_tiling.proofs.Prelude.{item_name, item_names, in_limits, has_name, breaches, reached, table_of, first_breach, IsWellFormed, has_number, is_in_set, reached_by, Scope}
 use Rattle.prem_tiling.proofs.Prelude.{scope_at, scope_in, globals_of, functions_of, Breach, NoJob, Twice, OfTypes, LoopForm, first_of, Text, MarkText, GlobalVariable, FunctionText}
 use Rattle.prem_tiling.proofs.Prelude.{global_item, function_item, ProgramText, CanCut, renumbered, names_of, Loop, Cut, tile_name, tile_names, tile_mark, tile_of, tiles_from}
-use Rattle.prem_tiling.proofs.Prelude.{function_with_tiles, tiled, used_names, ◌≡◌, ℕ, zero, suc, ◌+◌, ◌-◌, ◌<◌, ◌≤◌, Bool, true, false, not, ◌&&◌, ◌||◌, List, [], ◌∷◌, ◌++◌, length, map}
-use Rattle.prem_tiling.proofs.Prelude.{refl, ap, sym, ◌∙◌, subst, arith, Option, None, Some, option_map, eqb, is_some, is_none, ◌⊎◌, inl, inr, ⊎_elim, true≢false, append_assoc}
-use Rattle.prem_tiling.proofs.Prelude.{slice_index_or, IsTrue, cases_eq, append-nil, length-map, bytes_eq-Decides, list_any, codes, slice_get, bytes_eq}
+use Rattle.prem_tiling.proofs.Prelude.{function_with_tiles, tiled, used_names, cases_eq, append-nil, length-map, bytes_eq-Decides, list_any, codes, slice_get, bytes_eq}
 use Rattle.prem_tiling.proofs.LawsLemmas.Callees.{row_of, of_row, mark_of, of_mark, Placed, placed, body_formed, all_callees_before, all_callees_moved, calls_nothing}
 use Rattle.prem_tiling.proofs.LawsLemmas.Calls.{renumbered_below, renumbered_above, renumbered_apart, renumbered_no_tile}
 use Rattle.prem_tiling.proofs.LawsLemmas.Formed.{none_left, none_right, none_both, kept_rule, IsLoop}

@@ -1,13 +1,13 @@
 -- Expressions and statements that break no rule break none in the program with tiles.
+use Rattle.std.proofs.Common.{◌≡◌, ℕ, zero, suc, ◌+◌, ◌<◌, ◌≤◌, Bool, true, false, cond, not, ◌&&◌, ◌||◌, List, [], ◌∷◌, ◌++◌, length, refl, ap, sym, ◌∙◌, arith, Option, None, Some, eqb}
+use Rattle.std.proofs.Common.{ltb, is_some, ◌⊎◌, inl, inr, true≢false}
 use Rattle.prem_tiling.proofs.Prelude.{Around, if_at, unknown, used_plain, used_indexed, in_expression, in_expressions, in_option, in_assigned, in_target, in_call_target, in_callee}
 use Rattle.prem_tiling.proofs.Prelude.{in_names, is_local, is_int_local, is_int, same_name, assigns_within, is_between, is_loop, is_void, is_marked_text, in_statement, in_statements, Scope}
 use Rattle.prem_tiling.proofs.Prelude.{find_local, find_global, find_function, first_meaning, meaning_of, resolve_term, kind_of, Rule, Breach, OfTypes, CallOrder, SystemCall, LoopForm, Text}
 use Rattle.prem_tiling.proofs.Prelude.{Expression, literal, variable, element, unary, binary, LoopNames, Statement, block, if_then, if_else, bounded_while, counting_for, assign, output}
 use Rattle.prem_tiling.proofs.Prelude.{input, call, Statements, no_statements, next_statement, Parameter, GlobalVariable, FunctionText, Meaning, Nothing, Local as LocalName}
 use Rattle.prem_tiling.proofs.Prelude.{Scalar as ScalarName, Array as ArrayName, Function as FunctionName, Place, Ty, renumbered, Cut, tile_name, tile_of, calls_from, with_tiles}
-use Rattle.prem_tiling.proofs.Prelude.{all_with_tiles, function_with_tiles, ◌≡◌, ℕ, zero, suc, ◌+◌, ◌<◌, ◌≤◌, Bool, true, false, cond, not, ◌&&◌, ◌||◌, List, [], ◌∷◌, ◌++◌, length, refl, ap}
-use Rattle.prem_tiling.proofs.Prelude.{sym, ◌∙◌, arith, Option, None, Some, eqb, ltb, is_some, ◌⊎◌, inl, inr, true≢false, and_parts, cases_lt, lt-ltb, ltb-true, bytes_eq-Decides, flat_map}
-use Rattle.prem_tiling.proofs.Prelude.{bytes_eq}
+use Rattle.prem_tiling.proofs.Prelude.{all_with_tiles, function_with_tiles, and_parts, cases_lt, lt-ltb, ltb-true, bytes_eq-Decides, flat_map, bytes_eq}
 use Rattle.prem_syntax.specs.Breaches.{assigns}
 use Rattle.prem_syntax.specs.Rules.{MarkedCall}
 use Rattle.prem_tiling.proofs.LawsLemmas.Calls.{renumbered_below, renumbered_above, above_first}

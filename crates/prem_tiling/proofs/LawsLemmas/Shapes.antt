@@ -1,11 +1,12 @@
 -- What a function has that has the shape.
+use Rattle.std.proofs.Common.{◌≡◌, ℕ, zero, suc, ◌≤◌, Bool, true, false, cond, ◌&&◌, ◌||◌, List, [], ◌∷◌, ◌++◌, map, refl, ap, sym, ◌∙◌, subst, arith, Option, None, Some, Ok, eqb}
+use Rattle.std.proofs.Common.{true≢false, option_map, is_some, append_assoc}
 use Rattle.prem_tiling.proofs.Prelude.{number_of, assigns_within as assigns_name_within, Access, and_then, eval, unary_word, Scope, find_named, find_local, find_global, find_function}
 use Rattle.prem_tiling.proofs.Prelude.{global_meaning, first_meaning, meaning_of, local_number, declared, resolve_term, resolve_locals, local_names, ProgramState, declare, with_new_local}
 use Rattle.prem_tiling.proofs.Prelude.{Text, Expression, literal, variable, element, unary, binary, Statement, block, if_then, if_else, bounded_while, counting_for, assign, output, input}
 use Rattle.prem_tiling.proofs.Prelude.{call, Statements, no_statements, next_statement, Parameter, LocalVariable, GlobalVariable, FunctionText, Ty, names_of, is_number, is_local_named}
 use Rattle.prem_tiling.proofs.Prelude.{assigns, assign_within, is_constant, has_call, Number, Loop, loop_between, loop_of, only_loop, without_call, no_parameters, are_constants, shape_of}
-use Rattle.prem_tiling.proofs.Prelude.{Int, ◌≡◌, ℕ, zero, suc, ◌≤◌, Bool, true, false, cond, ◌&&◌, ◌||◌, List, [], ◌∷◌, ◌++◌, map, refl, ap, sym, ◌∙◌, subst, arith, Option, None, Some, Ok}
-use Rattle.prem_tiling.proofs.Prelude.{eqb, true≢false, option_map, is_some, append_assoc, and_parts, leb-true, eqb-true, append-nil, bytes_eq-Decides, nat_le, bytes_eq}
+use Rattle.prem_tiling.proofs.Prelude.{Int, and_parts, leb-true, eqb-true, append-nil, bytes_eq-Decides, nat_le, bytes_eq}
 use Rattle.prem_names.proofs.Named.{number_found, number_missing}
 use Rattle.prem_syntax.specs.Breaches.{assigns as assigns_name}
 use Rattle.prem_syntax.specs.declared.tree.Ty.TheVariants.{Int as IntTy}

@@ -1,10 +1,10 @@
 -- What the rules say of the function that is cut, and of its loop.
+use Rattle.std.proofs.Common.{◌≡◌, ℕ, ◌+◌, ◌<◌, Bool, true, false, not, ◌&&◌, ◌||◌, List, [], ◌∷◌, ◌++◌, length, refl, ap, sym, ◌∙◌, subst, Option, None, Some, eqb, leb, is_some, is_none}
+use Rattle.std.proofs.Common.{true≢false, IsTrue}
 use Rattle.prem_tiling.proofs.Prelude.{Around, around, if_at, if_broken, is_job_name, is_marked_text, is_narrow, is_void, is_loop, in_names, in_expression, in_regions, regions_of}
 use Rattle.prem_tiling.proofs.Prelude.{in_heading, in_parameters, in_locals, in_statement, in_statements, in_option, parameter_texts, in_function, in_items, item_names, in_limits, has_name}
 use Rattle.prem_tiling.proofs.Prelude.{breaches, reached, first_breach, IsWellFormed, is_in_set, Scope, scope_at, scope_in, globals_of, functions_of, Breach, NoJob, Twice, OfTypes, LoopForm}
-use Rattle.prem_tiling.proofs.Prelude.{Text, Expression, GlobalVariable, FunctionText, function_item, ProgramText, Loop, shape_of, marked_named, Cut, tiled, ◌≡◌, ℕ, ◌+◌, ◌<◌, Bool, true}
-use Rattle.prem_tiling.proofs.Prelude.{false, not, ◌&&◌, ◌||◌, List, [], ◌∷◌, ◌++◌, length, refl, ap, sym, ◌∙◌, subst, Option, None, Some, eqb, leb, is_some, is_none, true≢false, IsTrue}
-use Rattle.prem_tiling.proofs.Prelude.{and_parts, leb-true, list_any}
+use Rattle.prem_tiling.proofs.Prelude.{Text, Expression, GlobalVariable, FunctionText, function_item, ProgramText, Loop, shape_of, marked_named, Cut, tiled, and_parts, leb-true, list_any}
 use Rattle.prem_tiling.proofs.LawsLemmas.Formed.{none_left, none_right, kept_rule, kept_rule_not, none_broken, IsLoop, loop_parts}
 use Rattle.prem_tiling.proofs.LawsLemmas.Lists.{names_of_functions, in_items_append, split_at}
 use Rattle.prem_tiling.proofs.LawsLemmas.Placed.{has_append, same_name, functions_unnamed, heading_of, not_earlier, later_apart}

@@ -1,9 +1,10 @@
 -- What steps are resolved to doesn't depend on the functions of a program, but for calls.
+use Rattle.std.proofs.Common.{◌≡◌, ℕ, ◌+◌, false, List, [], ◌∷◌, map, refl, ap, sym, ◌∙◌, Option, None, Some, true≢false}
 use Rattle.prem_tiling.proofs.Prelude.{Scope, find_local, find_global, find_function, first_meaning, meaning_of, variable_term, element_term, binary_term, resolve_term, loops_in, set_steps}
 use Rattle.prem_tiling.proofs.Prelude.{input_steps, loop_local, local_number, target_of, resolve_statement, resolve_statements, declared, resolve_locals, Term, Steps, Done, Unary, If, For}
 use Rattle.prem_tiling.proofs.Prelude.{While, Output, Text, Expression, literal, variable, element, unary, binary, Statement, block, if_then, if_else, bounded_while, counting_for, assign}
 use Rattle.prem_tiling.proofs.Prelude.{output, input, call, Statements, no_statements, next_statement, LocalVariable, GlobalVariable, FunctionText, Meaning, Nothing}
-use Rattle.prem_tiling.proofs.Prelude.{Function as FunctionName, Place, Ty, has_call, have_call, ◌≡◌, ℕ, ◌+◌, false, List, [], ◌∷◌, map, refl, ap, sym, ◌∙◌, Option, None, Some, true≢false}
+use Rattle.prem_tiling.proofs.Prelude.{Function as FunctionName, Place, Ty, has_call, have_call}
 use Rattle.prem_tiling.proofs.LawsLemmas.Tied.{neither_left, neither_right}
 use Rattle.std.specs.Option.{option_map}
 

@@ -1,10 +1,11 @@
 -- Two states that differ in stale locals and in their marks alone, and what evaluates alike in them.
+use Rattle.std.proofs.Common.{◌≡◌, ℕ, ◌+◌, ◌<◌, ◌≤◌, Bool, true, false, cond, not, ◌&&◌, ◌||◌, List, [], ◌∷◌, ◌++◌, length, set, refl, ap, sym, ◌∙◌, subst, arith, Option, None, Some, Ok}
+use Rattle.std.proofs.Common.{eqb, ◌⊎◌, inl, inr, true≢false}
 use Rattle.prem_tiling.proofs.Prelude.{number_of, and_then, Access, cell, or_wrong, eval, truth_of, unary_word, operate, Scope, meaning_of, operand_kind, kind_of, variable_term}
 use Rattle.prem_tiling.proofs.Prelude.{element_term, resolve_term, local_number, Term, operator, ProgramState, MarkedCall, value, with_local, stored, with_cell, store, with_output}
 use Rattle.prem_tiling.proofs.Prelude.{take_input, Text, Expression, literal, variable, element, unary, binary, Meaning, Nothing, Local as LocalName, Scalar as ScalarName}
 use Rattle.prem_tiling.proofs.Prelude.{Array as ArrayName, Function as FunctionName, Place, Ty, LocalSet, without, first_line, is_stale, read_of, AndAlso as AndAlsoOp, OrElse as OrElseOp}
-use Rattle.prem_tiling.proofs.Prelude.{Kind, ◌≡◌, ℕ, ◌+◌, ◌<◌, ◌≤◌, Bool, true, false, cond, not, ◌&&◌, ◌||◌, List, [], ◌∷◌, ◌++◌, length, set, refl, ap, sym, ◌∙◌, subst, arith, Option}
-use Rattle.prem_tiling.proofs.Prelude.{None, Some, Ok, eqb, ◌⊎◌, inl, inr, true≢false, cases_lt, eq-eqb, eqb-true, length-set, get_or-set_same, get_or-set_other, get_or_past, slice_index}
+use Rattle.prem_tiling.proofs.Prelude.{Kind, cases_lt, eq-eqb, eqb-true, length-set, get_or-set_same, get_or-set_other, get_or_past, slice_index}
 use Rattle.prem_tiling.proofs.LawsLemmas.Joint.{Joint, fine, same_then}
 use Rattle.prem_word.specs.declared.kind.BinOp.{BinOp}
 

@@ -1,8 +1,8 @@
 -- Where there is a program with tiles, the function could be cut.
+use Rattle.std.proofs.Common.{◌≡◌, ℕ, ◌≤◌, Bool, true, false, cond, List, [], ◌∷◌, refl, ap, sym, ◌∙◌, subst, Option, None, Some, Ok, Err, ltb}
 use Rattle.prem_tiling.proofs.Prelude.{in_limits, IsWellFormed, functions_of, globals_of, number_named, Breach, source, Text, FunctionText, ProgramText, CanCut, AreSame, names_of}
 use Rattle.prem_tiling.proofs.Prelude.{carried_in, Loop, marked_named, shape_of, turns_of, limit, turns, Past, has_breach, is_past, unless_taken, unless_carried, cut_by, of_shape}
-use Rattle.prem_tiling.proofs.Prelude.{of_function, tile, tiled, used_names, taken_from, ◌≡◌, ℕ, ◌≤◌, Bool, true, false, cond, List, [], ◌∷◌, refl, ap, sym, ◌∙◌, subst, Option, None, Some}
-use Rattle.prem_tiling.proofs.Prelude.{Ok, Err, ltb, ltb-false}
+use Rattle.prem_tiling.proofs.Prelude.{of_function, tile, tiled, used_names, taken_from, ltb-false}
 use Rattle.prem_tiling.proofs.LawsLemmas.Law.{tiles_same}
 use Rattle.prem_tiling.proofs.LawsLemmas.Lists.{named_so}
 use Rattle.prem_tiling.proofs.LawsLemmas.Tied.{neither_left}

@@ -1,12 +1,13 @@
 -- A turn without a read of stale locals does the same from two states that differ in these alone.
+use Rattle.std.proofs.Common.{◌≡◌, ℕ, ◌+◌, Bool, true, false, cond, not, ◌&&◌, ◌||◌, List, [], ◌++◌, refl, ap, sym, ◌∙◌, subst, Option, None, Some, Ok, Err, eqb, true≢false}
+use Rattle.std.specs.Prelude.{ℤ, pos, ◌+ℤ◌, int_lt}
 use Rattle.prem_tiling.proofs.Prelude.{number_of, Around, if_at, is_between, is_loop, in_expression, in_names, in_statement, in_statements, Outcome, and_then, Access, meaning_of}
 use Rattle.prem_tiling.proofs.Prelude.{resolve_term, loops_in, set_steps, input_steps, loop_local, local_number, resolve_statement, resolve_statements, Steps, Done, LoopForm, ProgramState}
 use Rattle.prem_tiling.proofs.Prelude.{MarkedCall, Calls, choose, value, with_local, store, with_output, take_input, holds, in_bound, int_local, loop_test, loop_step, counting, run, Text}
 use Rattle.prem_tiling.proofs.Prelude.{Expression, Statement, block, if_then, if_else, bounded_while, counting_for, assign, output, input, call, Statements, no_statements, next_statement}
 use Rattle.prem_tiling.proofs.Prelude.{Meaning, Nothing, Local as LocalName, Scalar as ScalarName, Array as ArrayName, Function as FunctionName, Place, is_number, is_local_named, assigns}
 use Rattle.prem_tiling.proofs.Prelude.{assign_within, LocalSet, without, settled, settled_plain, behind, behind_all, first_line, read_of, read_of_option, read_in, read_within, has_call}
-use Rattle.prem_tiling.proofs.Prelude.{have_call, value_in, word_of, Int, ◌≡◌, ℕ, ◌+◌, Bool, true, false, cond, not, ◌&&◌, ◌||◌, List, [], ◌++◌, refl, ap, sym, ◌∙◌, subst, Option, None}
-use Rattle.prem_tiling.proofs.Prelude.{Some, Ok, Err, eqb, true≢false, eq-eqb, ℤ, pos, ◌+ℤ◌, int_lt}
+use Rattle.prem_tiling.proofs.Prelude.{have_call, value_in, word_of, Int, eq-eqb}
 use Rattle.prem_tiling.proofs.LawsLemmas.Formed.{none_left, none_right, kept_rule_not, int_local_numbered, loop_parts}
 use Rattle.prem_tiling.proofs.LawsLemmas.Joint.{Joint, fine, wrong, joint_then, same_then, counting_joint, bounded_joint}
 use Rattle.prem_tiling.proofs.LawsLemmas.Tied.{neither_left, neither_right, either_left, either_right, no_line_left, no_line_right, Numbered, Tied, more_stale, with_local_tied, output_tied}

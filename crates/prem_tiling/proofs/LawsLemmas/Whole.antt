@@ -1,9 +1,10 @@
 -- A program with tiles does what the program did.
+use Rattle.std.proofs.Common.{◌≡◌, ℕ, zero, suc, ◌+◌, ◌-◌, ◌<◌, ◌≤◌, Bool, true, false, cond, ◌||◌, List, [], ◌∷◌, ◌++◌, length, map, refl, ap, sym, ◌∙◌, subst, arith, Option, None, Some}
+use Rattle.std.proofs.Common.{option_map, IfSome, ◌⊎◌, inl, inr, ⊎_elim, true≢false}
 use Rattle.prem_tiling.proofs.Prelude.{within_names, number_of, is_void, in_function, in_items, in_global, item_names, has_name, is_in_set, find_named, find_function, number_named}
 use Rattle.prem_tiling.proofs.Prelude.{resolve_function, resolve_items, loops_within, globals_of, functions_of, Routine, Text, GlobalVariable, FunctionText, global_item, function_item}
-use Rattle.prem_tiling.proofs.Prelude.{ProgramText, renumbered, Cut, tile_name, tile_of, tiles_from, function_with_tiles, tiled, used_names, taken_from, ◌≡◌, ℕ, zero, suc, ◌+◌, ◌-◌, ◌<◌}
-use Rattle.prem_tiling.proofs.Prelude.{◌≤◌, Bool, true, false, cond, ◌||◌, List, [], ◌∷◌, ◌++◌, length, map, refl, ap, sym, ◌∙◌, subst, arith, Option, None, Some, option_map, IfSome, ◌⊎◌}
-use Rattle.prem_tiling.proofs.Prelude.{inl, inr, ⊎_elim, true≢false, cases_lt, append-nil, length-map, bytes_eq-Decides, slice_get, bytes_eq}
+use Rattle.prem_tiling.proofs.Prelude.{ProgramText, renumbered, Cut, tile_name, tile_of, tiles_from, function_with_tiles, tiled, used_names, taken_from, cases_lt, append-nil, length-map}
+use Rattle.prem_tiling.proofs.Prelude.{bytes_eq-Decides, slice_get, bytes_eq}
 use Rattle.prem_tiling.proofs.LawsLemmas.Alike.{Renamed}
 use Rattle.prem_tiling.proofs.LawsLemmas.Calls.{renumbered_below, renumbered_above, above_first}
 use Rattle.prem_tiling.proofs.LawsLemmas.Formed.{none_left, none_right}

@@ -1,8 +1,9 @@
 -- Programs and their tiles, computed; each stands below its text.
+use Rattle.std.proofs.Common.{◌≡◌, refl, ℕ, List, [], ◌∷◌, None, Some, Bool, true, false, Option, Result, Err}
 use Rattle.prem_tiling.proofs.Prelude.{functions_of, Text, Expression, literal, variable, element, binary, Statement, block, if_then, if_else, bounded_while, counting_for, assign, output}
 use Rattle.prem_tiling.proofs.Prelude.{call, no_statements, absent, LocalVariable, RegionText, FunctionText, ItemText, ProgramText, Place, Void, carried_in, Added, within, nothing}
-use Rattle.prem_tiling.proofs.Prelude.{elsewhere, added_in, Loop, shape_of, turns_of, marked_named, TileRule, no_function, shape, carry, turns, taken, tile, Cut, tiled, Add, Sub, Int, ◌≡◌}
-use Rattle.prem_tiling.proofs.Prelude.{refl, ℕ, List, [], ◌∷◌, None, Some, Bool, true, false, Option, Result, Err, digits, codes, pos, negsuc}
+use Rattle.prem_tiling.proofs.Prelude.{elsewhere, added_in, Loop, shape_of, turns_of, marked_named, TileRule, no_function, shape, carry, turns, taken, tile, Cut, tiled, Add, Sub, Int}
+use Rattle.prem_tiling.proofs.Prelude.{digits, codes, pos, negsuc}
 use Rattle.prem_syntax.proofs.Samples.{at, statements, one_name, local, region, global, function, plain}
 use Rattle.prem_syntax.specs.declared.tree.Ty.TheVariants.{Int as IntTy}
 

@@ -1,6 +1,7 @@
 -- Copies whose calls of a function are calls of others, by their names.
+use Rattle.std.specs.Prelude.{if◌then◌else◌, List, [], ◌∷◌, None}
 use Rattle.prem_tiling.specs.Prelude.{Text, Statement, block, if_then, if_else, bounded_while, counting_for, assign, output, input, call, Statements, no_statements, next_statement, Place}
-use Rattle.prem_tiling.specs.Prelude.{if◌then◌else◌, List, [], ◌∷◌, None, bytes_eq}
+use Rattle.prem_tiling.specs.Prelude.{bytes_eq}
 
 -- calls of functions, one behind the other
 abbrev pub calls_before : Place → List Text → Statements → Statements

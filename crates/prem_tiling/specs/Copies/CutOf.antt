@@ -1,5 +1,6 @@
 -- Cuts in memory.
-use Rattle.prem_tiling.specs.Prelude.{RegionText, MarkText, function_of, ◌≡◌, ℕ, ◌≤◌, ◌<◌, ℤ, pos, map, Some}
+use Rattle.std.specs.Prelude.{◌≡◌, ℕ, ◌≤◌, ◌<◌, ℤ, pos, map, Some}
+use Rattle.prem_tiling.specs.Prelude.{RegionText, MarkText, function_of}
 use Rattle.prem_tiling.specs.Copies.ShapeOf.{loop_in}
 use Rattle.prem_tiling.specs.Shapes.Narrowed.{added_in, narrowed}
 use Rattle.prem_tiling.specs.Shapes.Shape.{Loop, shape_of, turns_of}

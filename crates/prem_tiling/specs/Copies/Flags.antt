@@ -1,7 +1,7 @@
 -- Flags, one for each local: which locals statements assign, and where a flagged one is read.
+use Rattle.std.specs.Prelude.{ℕ, Bool, true, false, if◌then◌else◌, List, [], ◌∷◌, slice_index_or, slice_set, Option, None, Some}
 use Rattle.prem_tiling.specs.Prelude.{number_of, Text, Expression, literal, variable, element, unary, binary, Statement, block, if_then, if_else, bounded_while, counting_for, assign, output}
-use Rattle.prem_tiling.specs.Prelude.{input, call, Statements, no_statements, next_statement, ℕ, Bool, true, false, if◌then◌else◌, List, [], ◌∷◌, slice_index_or, slice_set, Option, None}
-use Rattle.prem_tiling.specs.Prelude.{Some}
+use Rattle.prem_tiling.specs.Prelude.{input, call, Statements, no_statements, next_statement}
 use Rattle.prem_tiling.specs.Shapes.Carried.{first_line}
 
 abbrev pub flag_at : List Bool → ℕ → Bool

@@ -1,5 +1,6 @@
 -- Names that are looked for.
-use Rattle.prem_tiling.specs.Prelude.{has_name, Text, if◌then◌else◌, List, Option, None, Some}
+use Rattle.std.specs.Prelude.{if◌then◌else◌, List, Option, None, Some}
+use Rattle.prem_tiling.specs.Prelude.{has_name, Text}
 
 -- a name, where it is among others
 abbrev pub found_in : List Text → Text → Option Text

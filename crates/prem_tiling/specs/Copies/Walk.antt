@@ -1,7 +1,8 @@
 -- A turn of a loop, walked in the order of its text: the locals that are stale so far, and the line of the first read of one. What is known behind
 -- arms and inner loops is taken back by the trail, so a walk takes as long as its text.
+use Rattle.std.specs.Prelude.{ℕ, length, take, drop, Bool, true, false, List, [], ◌∷◌, ◌++◌, slice_set, Option, None, Some}
 use Rattle.prem_tiling.specs.Prelude.{number_of, Text, Expression, Statement, block, if_then, if_else, bounded_while, counting_for, assign, output, input, call, Statements, no_statements}
-use Rattle.prem_tiling.specs.Prelude.{next_statement, ℕ, length, take, drop, Bool, true, false, List, [], ◌∷◌, ◌++◌, slice_set, Option, None, Some}
+use Rattle.prem_tiling.specs.Prelude.{next_statement}
 use Rattle.prem_tiling.specs.Copies.Flags.{flag_at, assigned_flags, read_by, read_by_option, read_by_all}
 use Rattle.prem_tiling.specs.Shapes.Carried.{first_line}
 

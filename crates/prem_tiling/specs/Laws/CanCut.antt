@@ -1,5 +1,6 @@
 -- When a function of a program can be cut into tiles.
-use Rattle.prem_tiling.specs.Prelude.{functions_of, ProgramText, ◌≡◌, ◌≤◌, None, Some}
+use Rattle.std.specs.Prelude.{◌≡◌, ◌≤◌, None, Some}
+use Rattle.prem_tiling.specs.Prelude.{functions_of, ProgramText}
 use Rattle.prem_tiling.specs.Shapes.Carried.{names_of, carried_in}
 use Rattle.prem_tiling.specs.Shapes.Shape.{marked_named, shape_of, turns_of}
 use Rattle.prem_tiling.specs.Shapes.Tiled.{Cut, used_names, taken_from}

@@ -1,7 +1,7 @@
 -- Locals that carry a value from one turn of a loop into the next: the loop's body assigns them, and a turn may read them before it has surely assigned them.
+use Rattle.std.specs.Prelude.{ℕ, ◌==◌, Bool, false, not, ◌&&◌, ◌||◌, if◌then◌else◌, List, [], ◌∷◌, map, Option, None, Some}
 use Rattle.prem_tiling.specs.Prelude.{number_of, Text, Expression, literal, variable, element, unary, binary, Statement, block, if_then, if_else, bounded_while, counting_for, assign, output}
-use Rattle.prem_tiling.specs.Prelude.{input, call, Statements, no_statements, next_statement, LocalVariable, ℕ, ◌==◌, Bool, false, not, ◌&&◌, ◌||◌, if◌then◌else◌, List, [], ◌∷◌, map, Option}
-use Rattle.prem_tiling.specs.Prelude.{None, Some}
+use Rattle.prem_tiling.specs.Prelude.{input, call, Statements, no_statements, next_statement, LocalVariable}
 
 -- ---- which locals a statement assigns; locals are told by their number among the names of all
 

@@ -1,7 +1,7 @@
 -- Regions of a tile: where all accesses of a global follow the loop's variable, the elements that the tile's turns can reach.
+use Rattle.std.specs.Prelude.{ℕ, nat_le, ℤ, pos, neg_ℤ, ◌+ℤ◌, int_le, unsigned_abs, Bool, false, if◌then◌else◌, List, [], ◌∷◌, Option, None, Some}
 use Rattle.prem_tiling.specs.Prelude.{Text, Expression, literal, variable, element, unary, binary, Statement, block, if_then, if_else, bounded_while, counting_for, assign, output, input}
-use Rattle.prem_tiling.specs.Prelude.{call, Statements, no_statements, next_statement, RegionText, int_min, int_max, ℕ, nat_le, ℤ, pos, neg_ℤ, ◌+ℤ◌, int_le, unsigned_abs, Bool, false}
-use Rattle.prem_tiling.specs.Prelude.{if◌then◌else◌, List, [], ◌∷◌, Option, None, Some, bytes_eq}
+use Rattle.prem_tiling.specs.Prelude.{call, Statements, no_statements, next_statement, RegionText, int_min, int_max, bytes_eq}
 use Rattle.prem_word.specs.declared.kind.BinOp.{BinOp}
 use Rattle.prem_word.specs.declared.kind.BinOp.TheVariants.{Add, Sub}
 

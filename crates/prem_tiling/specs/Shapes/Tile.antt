@@ -1,6 +1,6 @@
 -- The program with tiles, or the first reason why there is none.
-use Rattle.prem_tiling.specs.Prelude.{in_limits, functions_of, globals_of, Text, FunctionText, ProgramText, list_any, ℕ, nat_lt, Bool, true, false, ◌||◌, if◌then◌else◌, List, [], ◌∷◌}
-use Rattle.prem_tiling.specs.Prelude.{length, Option, None, Some, Result, Ok, Err}
+use Rattle.std.specs.Prelude.{ℕ, nat_lt, Bool, true, false, ◌||◌, if◌then◌else◌, List, [], ◌∷◌, length, Option, None, Some, Result, Ok, Err}
+use Rattle.prem_tiling.specs.Prelude.{in_limits, functions_of, globals_of, Text, FunctionText, ProgramText, list_any}
 use Rattle.prem_syntax.specs.Rules.{Breach}
 use Rattle.prem_tiling.specs.Shapes.Carried.{names_of, carried_in}
 use Rattle.prem_tiling.specs.Shapes.Shape.{Loop, marked_named, shape_of, turns_of}

@@ -1,7 +1,8 @@
 -- The tiles of a function, and the program that has them in its place.
+use Rattle.std.specs.Prelude.{ℕ, zero, suc, ◌+◌, ◌*◌, ◌/◌, ◌==◌, ℤ, pos, ◌-ℤ◌, Bool, true, false, if◌then◌else◌, List, [], ◌∷◌, ◌++◌, map, Option, None, Some, codes, decimal}
 use Rattle.prem_tiling.specs.Prelude.{has_name, parameter_texts, Text, Expression, literal, Statement, block, if_then, if_else, bounded_while, counting_for, assign, output, input, call}
-use Rattle.prem_tiling.specs.Prelude.{Statements, no_statements, next_statement, RegionText, MarkText, FunctionText, ItemText, global_item, function_item, ProgramText, Place, flat_map, ℕ}
-use Rattle.prem_tiling.specs.Prelude.{zero, suc, ◌+◌, ◌*◌, ◌/◌, ◌==◌, ℤ, pos, ◌-ℤ◌, Bool, true, false, if◌then◌else◌, List, [], ◌∷◌, ◌++◌, map, Option, None, Some, codes, decimal, bytes_eq}
+use Rattle.prem_tiling.specs.Prelude.{Statements, no_statements, next_statement, RegionText, MarkText, FunctionText, ItemText, global_item, function_item, ProgramText, Place, flat_map}
+use Rattle.prem_tiling.specs.Prelude.{bytes_eq}
 use Rattle.prem_tiling.specs.Shapes.Carried.{names_of}
 use Rattle.prem_tiling.specs.Shapes.Narrowed.{added_in, narrowed}
 use Rattle.prem_tiling.specs.Shapes.Shape.{Number, Loop, turns_of}

@@ -1,5 +1,5 @@
-use Rattle.prem_analysis.proofs.Prelude.{breach_of, found_of, turns_are_words, first_range_breach, turn_bounds, StaysInRange, ProgramHasWords, IsWellFormed, program_of, ◌≡◌, Option, None}
-use Rattle.prem_analysis.proofs.Prelude.{refl, ap, ◌∙◌, ◌<◌, ◌^◌, ℕ, sym, subst, All, IsTrue, is_none}
+use Rattle.std.proofs.Common.{◌≡◌, Option, None, refl, ap, ◌∙◌, ◌<◌, ◌^◌, ℕ, sym, subst}
+use Rattle.prem_analysis.proofs.Prelude.{breach_of, found_of, turns_are_words, first_range_breach, turn_bounds, StaysInRange, ProgramHasWords, IsWellFormed, program_of, All, IsTrue, is_none}
 use Rattle.prem_analysis.proofs.Bounded.{all_below}
 use Rattle.prem_analysis.proofs.Counts.{told_named}
 use Rattle.prem_analysis.specs.declared.ranging.found.Broken.{Broken}

@@ -1,5 +1,5 @@
-use Rattle.prem_analysis.proofs.Prelude.{in_given, site_of, env_of, found_of, in_arguments, in_term, RangeBreach, first, first_of, parameter_of, term_of, ap, ◌∙◌, map, drop, Option, arith}
-use Rattle.prem_analysis.proofs.Prelude.{◌+◌, option_map, slice_get}
+use Rattle.std.proofs.Common.{ap, ◌∙◌, map, drop, Option, arith, ◌+◌}
+use Rattle.prem_analysis.proofs.Prelude.{in_given, site_of, env_of, found_of, in_arguments, in_term, RangeBreach, first, first_of, parameter_of, term_of, option_map, slice_get}
 use Rattle.prem_analysis.proofs.Arguments.{next_argument}
 use Rattle.prem_analysis.proofs.call.in_arguments.Goals as goal
 

@@ -1,5 +1,6 @@
+use Rattle.std.proofs.Common.{◌≡◌, List, ap, ◌∙◌, ◌∷◌, arith, to_z, of_z}
 use Rattle.prem_analysis.proofs.Prelude.{plain, site_of, targets, span_of, env_of, found_of, saves_of, seen_of, Known, turn_bound, body_range, range_behind, at_local, with_range}
-use Rattle.prem_analysis.proofs.Prelude.{in_counting_loop, range_of, first_of, saved_few, term_of, ◌≡◌, List, ap, ◌∙◌, ◌∷◌, arith, to_z, of_z, ints, w64}
+use Rattle.prem_analysis.proofs.Prelude.{in_counting_loop, range_of, first_of, saved_few, term_of, ints, w64}
 use Rattle.prem_analysis.proofs.Heads.{head, body_known, behind_saved, head_seen}
 use Rattle.prem_analysis.proofs.loops.enter_counting.Goals as goal
 

@@ -1,4 +1,5 @@
-use Rattle.prem_annotate.proofs.Prelude.{notes_of, all_notes_found, outlook_of, global_of, function_of, ◌≡◌, ◌++◌, map, drop}
+use Rattle.std.proofs.Common.{◌≡◌, ◌++◌, map, drop}
+use Rattle.prem_annotate.proofs.Prelude.{notes_of, all_notes_found, outlook_of, global_of, function_of}
 use Rattle.prem_annotate.proofs.notes.all_notes.Given as goal
 
 abbrev pub invariant-loop-n : goal.invariant-loop-n

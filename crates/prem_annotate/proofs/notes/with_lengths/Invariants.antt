@@ -1,4 +1,5 @@
-use Rattle.prem_annotate.proofs.Prelude.{notes_of, lengthened, length_at, ◌≡◌, ◌++◌, ◌+◌, map, length}
+use Rattle.std.proofs.Common.{◌≡◌, ◌++◌, ◌+◌, map, length}
+use Rattle.prem_annotate.proofs.Prelude.{notes_of, lengthened, length_at}
 use Rattle.std.specs.Vec.Iter.{into_iter_items}
 use Rattle.prem_annotate.proofs.notes.with_lengths.Given as goal
 

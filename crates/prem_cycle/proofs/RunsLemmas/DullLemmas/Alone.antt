@@ -1,7 +1,9 @@
 -- A cycle in which an instruction issues alone.
+use Rattle.std.proofs.Common.{◌≡◌, ℕ, zero, suc, Bool, true, false, List, [], ◌∷◌, refl, ap, ◌∙◌, arith}
+use Rattle.std.specs.Prelude.{◌&&◌, ◌==◌}
 use Rattle.prem_cycle.proofs.Prelude.{is_empty, want_of, CoreMove, Issues, move_running, move_in, move_of, core_turn, Arrivals, arrivals_at, bus_at, with_memory, with_clash, move_at}
 use Rattle.prem_cycle.proofs.Prelude.{core_at, joined, ticked, cycle_of, Setup, Work, CoreState, MachineState, Turned, bus_turn, wants, No, Request, Change, Stay, Memory, Execute, End, Job}
-use Rattle.prem_cycle.proofs.Prelude.{ReplacementRule, TaskJobs, ◌≡◌, ℕ, zero, suc, Bool, true, false, List, [], ◌∷◌, refl, ap, ◌∙◌, arith, nat_tests, ◌&&◌, ◌==◌}
+use Rattle.prem_cycle.proofs.Prelude.{ReplacementRule, TaskJobs, nat_tests}
 use Rattle.prem_cycle.proofs.RunsLemmas.DullLemmas.Stretch.{none_arrives}
 use Rattle.prem_cycle.specs.Runs.Dull.Issuing.{continues, idle_turn, IssuesAlone, issue_joined, issue_cycle}
 

@@ -1,4 +1,6 @@
 -- A dull cycle rests: what else a cycle may do changes more than the numbers that count.
+use Rattle.std.proofs.Common.{◌≡◌, ◌≢◌, ℕ, zero, suc, ◌+◌, ◌-◌, ◌<◌, ◌≤◌, Bool, true, false, cond, List, [], ◌∷◌, Option, Some, None, refl, ap, sym, ◌∙◌, subst, arith, length}
+use Rattle.std.specs.Prelude.{◌/◌, is_some, nat_le, nat_lt, slice_set, not, ◌||◌, ◌&&◌, ◌==◌}
 use Rattle.prem_cycle.proofs.Prelude.{is_empty, is_paid, want_of, with_cost, paid_on_bus, core_pay, CoreMove, Passes, Issues, begin_switch, begin_idle, move_chosen, move_running, move_in}
 use Rattle.prem_cycle.proofs.Prelude.{phase_in, core_issue, core_turn, Arrivals, with_memory, with_clash, move_at, core_at, joined, settle, with_now, next_cycle, ticked, cycle_with}
 use Rattle.prem_cycle.proofs.Prelude.{close_interval, at_point, ends_before, is_finish, is_finished, is_finished_in, is_full, Attempt, Traps, Executes, attempt_behind, LineTouch, one_if}
@@ -6,13 +8,11 @@ use Rattle.prem_cycle.proofs.Prelude.{with_touch, with_touches, with_store, issu
 use Rattle.prem_cycle.proofs.Prelude.{bus_rest, idle_rest, running_rest, mode_rest, core_rest, Within, IsSteady, Setup, Work, Task, Debt, CoreState, Counts, MachineState, record_of, task_in}
 use Rattle.prem_cycle.proofs.Prelude.{Interval, Mode, Point, Switching, Running, Idle, Turned, wants, with_carried, transfer_left, with_transfer, StaysAbove, lesser, New, Held, Window}
 use Rattle.prem_cycle.proofs.Prelude.{Request, with_last, Access, Change, Stay, Memory, Execute, End, Job, Phase, Stored, Touched, touch_of, ReplacementRule, least_later, Before, choice}
-use Rattle.prem_cycle.proofs.Prelude.{first_ready, least_release, rest, run_or, Choice, Run, Finished, ◌≡◌, ◌≢◌, ℕ, zero, suc, ◌+◌, ◌-◌, ◌<◌, ◌≤◌, Bool, true, false, cond, List, [], ◌∷◌}
-use Rattle.prem_cycle.proofs.Prelude.{Option, Some, None, refl, ap, sym, ◌∙◌, subst, arith, length, nat_tests, is_some, nat_le, nat_lt, slice_set, not, ◌||◌, ◌&&◌, ◌==◌}
+use Rattle.prem_cycle.proofs.Prelude.{first_ready, least_release, rest, run_or, Choice, Run, Finished, nat_tests}
 use Rattle.prem_cycle.proofs.CycleParts.{cycle_trapped}
 use Rattle.prem_cycle.proofs.RunsLemmas.DullLemmas.Steps.{want_by, both_within}
 use Rattle.prem_cycle.proofs.Time.{goes_untrapped}
 use Rattle.prem_sched.specs.declared.sched.Choice.TheVariants.{Idle as Rest}
-use Rattle.std.specs.Prelude.{◌/◌}
 
 -- ---- what settling leaves
 

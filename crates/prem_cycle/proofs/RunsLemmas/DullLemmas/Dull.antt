@@ -1,11 +1,12 @@
 -- Dull cycles rest.
+use Rattle.std.proofs.Common.{◌≡◌, ℕ, zero, suc, ◌+◌, ◌-◌, ◌<◌, ◌≤◌, Bool, true, false, List, [], ◌∷◌, Option, Some, None, refl, ap, sym, ◌∙◌, subst, arith, length, ⊎_elim, ◌⊎◌, inl, inr}
+use Rattle.std.specs.Prelude.{is_some, nat_lt, ◌||◌, ◌&&◌}
 use Rattle.prem_cycle.proofs.Prelude.{want_of, with_cost, core_pay, Passes, Arrivals, arrivals_at, bus_at, with_now, move_at, cycle_with, OnlyCounts, IsDull, AreDull, bus_rest, idle_rest}
 use Rattle.prem_cycle.proofs.Prelude.{running_rest, mode_rest, core_rest, Within, transactions_passed, mode_passed, core_passed, passed, Rests, IsSteady, Setup, CoreState, MachineState}
 use Rattle.prem_cycle.proofs.Prelude.{Interval, Mode, Point, Switching, Running, Idle, carried_run, quiet_carried, held_passed, free_passed, changes_same, held_has, GatesState, Turned}
 use Rattle.prem_cycle.proofs.Prelude.{bus_turn, wants, is_held, with_carried, AreQuiet, BusRun, lesser, takes_up, is_new, has_changed, transfer_left, with_transfer, bus_run, changes}
-use Rattle.prem_cycle.proofs.Prelude.{changes_behind, Carried, CoreWant, No, New, Held, Transfer, Window, Request, with_last, Change, Stay, Memory, Execute, End, Job, ReplacementRule, ◌≡◌}
-use Rattle.prem_cycle.proofs.Prelude.{ℕ, zero, suc, ◌+◌, ◌-◌, ◌<◌, ◌≤◌, Bool, true, false, List, [], ◌∷◌, Option, Some, None, refl, ap, sym, ◌∙◌, subst, arith, length, ⊎_elim, ◌⊎◌, inl, inr}
-use Rattle.prem_cycle.proofs.Prelude.{nat_tests, length_push, is_some, nat_lt, ◌||◌, ◌&&◌}
+use Rattle.prem_cycle.proofs.Prelude.{changes_behind, Carried, CoreWant, No, New, Held, Transfer, Window, Request, with_last, Change, Stay, Memory, Execute, End, Job, ReplacementRule}
+use Rattle.prem_cycle.proofs.Prelude.{nat_tests, length_push}
 use Rattle.prem_cycle.proofs.CycleParts.{settle_keeps, cycle_gates}
 use Rattle.prem_cycle.proofs.RunsLemmas.DullLemmas.Breaks.{moved_is, moved_as, move_wanting, turn_by, passes_debt, new_shows, core_rests_by}
 use Rattle.prem_cycle.proofs.RunsLemmas.DullLemmas.Pending.{one_carried, none_came}

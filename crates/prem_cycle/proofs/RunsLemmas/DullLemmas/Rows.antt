@@ -1,6 +1,6 @@
 -- The next event in worked states, by the definition: a wrong number is refused.
-use Rattle.prem_cycle.proofs.Prelude.{cycles_of, IsNextEvent, IsSteady, Rests, Setup, MachineState, Point, Switching, next_none, to_front, TaskJobs, ◌≡◌, ℕ, zero, suc, ◌<◌, ◌≤◌, [], refl}
-use Rattle.prem_cycle.proofs.Prelude.{ap, arith, slice_index_or}
+use Rattle.std.proofs.Common.{◌≡◌, ℕ, zero, suc, ◌<◌, ◌≤◌, [], refl, ap, arith}
+use Rattle.prem_cycle.proofs.Prelude.{cycles_of, IsNextEvent, IsSteady, Rests, Setup, MachineState, Point, Switching, next_none, to_front, TaskJobs, slice_index_or}
 use Rattle.prem_cycle.proofs.Images.{alone, marked, run}
 use Rattle.prem_cycle.proofs.RunsLemmas.DullLemmas.Stretch.{fewer_rest, rests_dull}
 

@@ -1,9 +1,10 @@
 -- A cycle of rest, and what so many of them come to.
+use Rattle.std.proofs.Common.{◌≡◌, ℕ, zero, suc, ◌+◌, ◌-◌, ◌<◌, ◌≤◌, Bool, true, false, cond, List, [], ◌∷◌, Option, Some, None, refl, ap, sym, ◌∙◌, arith}
+use Rattle.std.specs.Prelude.{nat_lt, nat_le, ◌&&◌, ◌==◌, if◌then◌else◌}
 use Rattle.prem_cycle.proofs.Prelude.{is_empty, want_of, paid_on_bus, with_debt, with_cost, is_paid, core_pay, Passes, begin_switch, move_running, move_in, move_of, settle, ends_before}
 use Rattle.prem_cycle.proofs.Prelude.{at_point, close_interval, bus_rest, idle_rest, running_rest, mode_rest, core_rest, Within, transactions_passed, debt_passed, mode_passed, core_passed}
 use Rattle.prem_cycle.proofs.Prelude.{Setup, Work, CoreState, MachineState, Interval, Mode, Point, Switching, Running, Idle, wants, is_held, lesser, CoreWant, No, New, Held, Change, Stay}
-use Rattle.prem_cycle.proofs.Prelude.{Memory, Execute, End, Job, TaskJobs, ◌≡◌, ℕ, zero, suc, ◌+◌, ◌-◌, ◌<◌, ◌≤◌, Bool, true, false, cond, List, [], ◌∷◌, Option, Some, None, refl, ap, sym}
-use Rattle.prem_cycle.proofs.Prelude.{◌∙◌, arith, nat_tests, nat_lt, nat_le, ◌&&◌, ◌==◌, if◌then◌else◌}
+use Rattle.prem_cycle.proofs.Prelude.{Memory, Execute, End, Job, TaskJobs, nat_tests}
 
 -- ---- numbers of cycles
 

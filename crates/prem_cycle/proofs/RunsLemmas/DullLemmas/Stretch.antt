@@ -1,17 +1,16 @@
 -- A cycle behind so many cycles of rest, and what all of them come to.
+use Rattle.std.proofs.Common.{All, ◌≡◌, ◌≢◌, ℕ, zero, suc, ◌+◌, ◌-◌, ◌≤◌, Bool, true, false, List, [], ◌∷◌, Option, Some, None, refl, ap, sym, ◌∙◌, subst, arith, length}
+use Rattle.std.specs.Prelude.{is_some, ◌||◌, ◌==◌, if◌then◌else◌}
 use Rattle.prem_cycle.proofs.Prelude.{want_of, with_cost, with_debt, CoreMove, Passes, core_turn, Arrivals, arrivals, arrivals_at, bus_at, with_memory, with_clash, move_at, joined, ticked}
 use Rattle.prem_cycle.proofs.Prelude.{cycle_of, is_over, is_finish, is_finished, is_finished_in, is_full, step_of, one_if, cycles_of, transaction_left, switch_left, with_transaction}
 use Rattle.prem_cycle.proofs.Prelude.{with_switch, OnlyCounts, AreDull, bus_rest, idle_rest, running_rest, mode_rest, core_rest, Within, transactions_passed, mode_passed, core_passed}
 use Rattle.prem_cycle.proofs.Prelude.{bus_passed, passed, Rests, IsSteady, Setup, Work, CoreState, Log, MachineState, Mode, Point, Switching, Running, Idle, quiet_turn, quiet_memory}
 use Rattle.prem_cycle.proofs.Prelude.{quiet_gates, quiet_free, GatesState, Turned, bus_turn, wants, AreQuiet, OnlyGoesOn, StaysAbove, lesser, bus_run, changes, CoreWant, Transfer, Window}
-use Rattle.prem_cycle.proofs.Prelude.{Request, with_last, Change, ReplacementRule, least_none, choice_done, choice, first_ready, least_release, rest, run_or, TaskJobs, ◌≡◌, ◌≢◌, ℕ, zero}
-use Rattle.prem_cycle.proofs.Prelude.{suc, ◌+◌, ◌-◌, ◌≤◌, Bool, true, false, List, [], ◌∷◌, Option, Some, None, refl, ap, sym, ◌∙◌, subst, arith, length, nat_tests, is_some, ◌||◌, ◌==◌}
-use Rattle.prem_cycle.proofs.Prelude.{if◌then◌else◌}
+use Rattle.prem_cycle.proofs.Prelude.{Request, with_last, Change, ReplacementRule, least_none, choice_done, choice, first_ready, least_release, rest, run_or, TaskJobs, nat_tests}
 use Rattle.prem_cycle.proofs.RunLaws.{step_of-goes}
 use Rattle.prem_cycle.proofs.RunsLemmas.DullLemmas.Steps.{within_less, within_both, passed_by, passed_is, want_passed, window_passed, move_next, settle_stays}
 use Rattle.prem_cycle.proofs.Time.{goes_untrapped}
 use Rattle.prem_cycle.specs.declared.state.Trap.{Trap}
-use Rattle.std.proofs.Common.{All}
 
 -- ---- arrivals
 

@@ -1,13 +1,13 @@
 -- A cycle, and any number of them, with one more input word of a task.
+use Rattle.std.proofs.Common.{◌≡◌, ℕ, zero, suc, ◌+◌, refl, ap, ◌∙◌, sym, cond, ⊎_elim, Bool, true, false, List, [], ◌∷◌, Option, Some, None}
+use Rattle.std.specs.Prelude.{length, ◌&&◌, ◌||◌, is_some, nat_lt, nat_le}
 use Rattle.prem_cycle.proofs.Prelude.{is_paid, core_turn, Arrivals, arrivals_at, bus_at, with_memory, with_clash, move_at, core_at, joined, ends_before, close_interval, at_point, settle}
 use Rattle.prem_cycle.proofs.Prelude.{with_now, next_cycle, ticked, cycle_with, is_finished, log_size, is_over, step_of, with_input, CycleStep, step_in, step_with, coming_step, cycles_of}
-use Rattle.prem_cycle.proofs.Prelude.{steps_of, is_past_end, has_read_past_end, Setup, MachineState, Mode, Point, Switching, Running, Idle, Turned, Request, with_last, ReplacementRule, ◌≡◌}
-use Rattle.prem_cycle.proofs.Prelude.{ℕ, zero, suc, ◌+◌, refl, ap, ◌∙◌, sym, cond, ⊎_elim, Bool, true, false, List, [], ◌∷◌, Option, Some, None, cases_Bool, list_any-append, list_any, ◌&&◌}
-use Rattle.prem_cycle.proofs.Prelude.{◌||◌, is_some, nat_lt, nat_le}
+use Rattle.prem_cycle.proofs.Prelude.{steps_of, is_past_end, has_read_past_end, Setup, MachineState, Mode, Point, Switching, Running, Idle, Turned, Request, with_last, ReplacementRule}
+use Rattle.prem_cycle.proofs.Prelude.{cases_Bool, list_any-append, list_any}
 use Rattle.prem_cycle.proofs.RunLaws.{step_of-goes, step_of-stays}
 use Rattle.prem_cycle.proofs.RunsLemmas.InputsLemmas.Turns.{turn_with, past_of, work_with, move_with, turn_same, past_same}
 use Rattle.prem_cycle.proofs.RunsLemmas.InputsLemmas.Words.{outputs_with}
-use Rattle.std.specs.Prelude.{length}
 
 -- ---- what is over
 

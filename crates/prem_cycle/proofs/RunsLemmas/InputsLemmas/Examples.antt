@@ -1,8 +1,8 @@
 -- Words that come in time and too late, counted by hand. A task takes a word and puts it out: after a switch of 20 cycles the
 -- `pm.in` issues in cycle 20; its line comes in 10 cycles, so the `pm.out` issues in cycle 31.
+use Rattle.std.proofs.Common.{◌≡◌, ◌≢◌, ℕ, List, [], ◌∷◌, ◌++◌, refl, ap, ◌∙◌, sym, arith, true, false}
 use Rattle.prem_cycle.proofs.Prelude.{with_input, cycles_of, memory_of, run_of, steps_of, with_word_for, History, Begins, Appends, cycles_in, inputs_in, state_in, reads_past_end_in}
-use Rattle.prem_cycle.proofs.Prelude.{IsTimely, run_reads_past_end, Setup, MachineState, start_of, task_in, to_front, ◌≡◌, ◌≢◌, ℕ, List, [], ◌∷◌, ◌++◌, refl, ap, ◌∙◌, sym, arith, true}
-use Rattle.prem_cycle.proofs.Prelude.{false, slice_index}
+use Rattle.prem_cycle.proofs.Prelude.{IsTimely, run_reads_past_end, Setup, MachineState, start_of, task_in, to_front, slice_index}
 use Rattle.prem_cycle.proofs.Images.{bytes_in, plant, task}
 use Rattle.prem_cycle.specs.Runs.Inputs.History.{Passes}
 

@@ -1,8 +1,7 @@
 -- The lists with an appended word fit the machine.
-use Rattle.prem_cycle.proofs.Prelude.{has_room_for_word, inputs_size, FitsRun, run_of, with_word_for, Setup, Request, ReplacementRule, ◌≡◌, ℕ, ◌<◌, ◌≤◌, ◌∙◌, sym, arith, true, List, [], ◌∷◌}
-use Rattle.prem_cycle.proofs.Prelude.{◌++◌, length, All-set, slice_index_or}
+use Rattle.std.proofs.Common.{ltb-true, length-append, length-set, ◌≡◌, ℕ, ◌<◌, ◌≤◌, ◌∙◌, sym, arith, true, List, [], ◌∷◌, ◌++◌, length}
+use Rattle.prem_cycle.proofs.Prelude.{has_room_for_word, inputs_size, FitsRun, run_of, with_word_for, Setup, Request, ReplacementRule, All-set, slice_index_or}
 use Rattle.prem_cycle.proofs.RunsLemmas.InputsLemmas.Taken.{room_is_of_the_list}
-use Rattle.std.proofs.Common.{ltb-true, length-append, length-set}
 
 one_more : (words : List ℕ) (word size : ℕ) → length words < size → length (words ++ word ∷ []) ≤ size
 one_more words word size lt = omega (arith, length-append words (word ∷ []))

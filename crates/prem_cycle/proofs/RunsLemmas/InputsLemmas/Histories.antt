@@ -1,11 +1,11 @@
 -- A history leads to the run on the lists with all appended words.
+use Rattle.std.proofs.Common.{length-set, ◌≡◌, ℕ, ◌+◌, ◌<◌, refl, ap, ◌∙◌, sym, subst, false, List, [], ◌∷◌, ◌++◌, length}
+use Rattle.std.specs.Prelude.{◌||◌, slice_index_or}
 use Rattle.prem_cycle.proofs.Prelude.{with_input, cycles_of, memory_of, run_of, steps_of, History, Begins, Appends, cycles_in, inputs_in, state_in, reads_past_end_in, IsTimely, is_past_end}
-use Rattle.prem_cycle.proofs.Prelude.{has_read_past_end, run_reads_past_end, Setup, MachineState, start_of, Request, ReplacementRule, ◌≡◌, ℕ, ◌+◌, ◌<◌, refl, ap, ◌∙◌, sym, subst, false}
-use Rattle.prem_cycle.proofs.Prelude.{List, [], ◌∷◌, ◌++◌, length, list_any-append, list_any, ◌||◌, slice_index_or}
+use Rattle.prem_cycle.proofs.Prelude.{has_read_past_end, run_reads_past_end, Setup, MachineState, start_of, Request, ReplacementRule, list_any-append, list_any}
 use Rattle.prem_cycle.proofs.RunLaws.{cycles_of-add, steps_of-add}
 use Rattle.prem_cycle.proofs.RunsLemmas.InputsLemmas.Runs.{inputs_extend, reads_stay}
 use Rattle.prem_cycle.specs.Runs.Inputs.History.{Passes}
-use Rattle.std.proofs.Common.{length-set}
 
 -- the reads past the end of m + n cycles
 has_read-add : (rule : ReplacementRule) (p : Setup) (requests : List Request) (m n : ℕ) (s : MachineState) (k : ℕ) →

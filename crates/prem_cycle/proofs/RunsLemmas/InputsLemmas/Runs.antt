@@ -1,6 +1,7 @@
 -- A run on longer lists of input words.
+use Rattle.std.proofs.Common.{◌≡◌, ℕ, zero, suc, ◌+◌, ◌<◌, refl, ap, ◌∙◌, sym, arith, false, List, [], ◌∷◌, length}
 use Rattle.prem_cycle.proofs.Prelude.{with_input, cycles_of, memory_of, run_of, with_word_for, has_read_past_end, run_reads_past_end, Setup, MachineState, Task, first_task, first_tasks}
-use Rattle.prem_cycle.proofs.Prelude.{start_of, Request, TaskRecord, ReplacementRule, ◌≡◌, ℕ, zero, suc, ◌+◌, ◌<◌, refl, ap, ◌∙◌, sym, arith, false, List, [], ◌∷◌, length}
+use Rattle.prem_cycle.proofs.Prelude.{start_of, Request, TaskRecord, ReplacementRule}
 use Rattle.prem_cycle.proofs.RunLaws.{cycles_of-add}
 use Rattle.prem_cycle.proofs.RunsLemmas.InputsLemmas.Cycles.{cycles_leave_the_word, has_read_same}
 use Rattle.prem_cycle.proofs.RunsLemmas.InputsLemmas.Words.{tasks_with}

@@ -1,9 +1,10 @@
 -- A task takes its input words in order.
+use Rattle.std.proofs.Common.{◌≡◌, ℕ, zero, suc, ◌+◌, ◌-◌, ◌/◌, ◌<◌, ◌≤◌, refl, ap, ◌∙◌, sym, subst, arith, ⊎_elim, Bool, true, false, Option, Some, None, List, [], ◌∷◌, drop, length}
+use Rattle.std.proofs.Common.{length-drop, drop-drop}
 use Rattle.prem_cycle.proofs.Prelude.{CoreMove, Passes, Issues, attempted, moved, arrivals_at, bus_at, with_memory, move_at, is_over, step_of, has_room_for_word, inputs_size, Attempt, Traps}
 use Rattle.prem_cycle.proofs.Prelude.{Executes, attempt_behind, task_moved, task_changed, task_after, issued_with, cycles_of, memory_of, run_of, Setup, MachineState, record_of, no_record}
 use Rattle.prem_cycle.proofs.Prelude.{first_task, first_tasks, start_of, Task, Work, task_in, Turned, Request, TaskRecord, left_after, used_after, Access, Change, Stay, Memory, Execute, End}
-use Rattle.prem_cycle.proofs.Prelude.{Job, Effect, Stored, Touched, touch_of, ReplacementRule, ◌≡◌, ℕ, zero, suc, ◌+◌, ◌-◌, ◌/◌, ◌<◌, ◌≤◌, refl, ap, ◌∙◌, sym, subst, arith, ⊎_elim, Bool}
-use Rattle.prem_cycle.proofs.Prelude.{true, false, Option, Some, None, List, [], ◌∷◌, drop, length, length-drop, drop-drop, cases_Bool, nat_lt, slice_index_or, slice_set}
+use Rattle.prem_cycle.proofs.Prelude.{Job, Effect, Stored, Touched, touch_of, ReplacementRule, cases_Bool, nat_lt, slice_index_or, slice_set}
 use Rattle.prem_cycle.proofs.CycleParts.{cycle_work}
 use Rattle.prem_cycle.proofs.RunLaws.{step_of-goes, step_of-stays}
 use Rattle.prem_cycle.proofs.RunsLemmas.InputsLemmas.Words.{no_task}

@@ -1,10 +1,11 @@
 -- The core's part of a cycle, with one more input word of a task.
+use Rattle.std.proofs.Common.{◌≡◌, ℕ, zero, suc, ◌/◌, refl, ap, ap₂, ◌∙◌, sym, cond, Bool, true, false, List, [], ◌∷◌, ◌++◌, Option, Some, None, eq-eqb}
+use Rattle.std.specs.Prelude.{◌==◌, ◌&&◌, slice_set}
 use Rattle.prem_cycle.proofs.Prelude.{is_empty, want_of, core_pay, CoreMove, Passes, Issues, phase_in, new_interval, begin_switch, move_chosen, move_in, move_of, core_issued, CoreTurn}
 use Rattle.prem_cycle.proofs.Prelude.{core_issue, core_turn, with_word, Attempt, Traps, Executes, attempt_in, attempt_of, view_touched, attempt_seen, behind_touches, attempt_behind}
 use Rattle.prem_cycle.proofs.Prelude.{task_after, Issued, issued_with, issued_by, owed_by, with_store, with_touches, CycleStep, step_by, step_in, is_past_end, Setup, record_of, Task, Work}
 use Rattle.prem_cycle.proofs.Prelude.{CoreState, Counts, task_in, Interval, Mode, Point, Switching, Running, Idle, wants, cost_of, Access, Cause, Effect, Phase, Stored, Instr, Touched}
-use Rattle.prem_cycle.proofs.Prelude.{touch_of, view_of, ReplacementRule, Target, choice, Choice, Run, Finished, TaskJobs, ◌≡◌, ℕ, zero, suc, ◌/◌, refl, ap, ap₂, ◌∙◌, sym, cond, Bool, true}
-use Rattle.prem_cycle.proofs.Prelude.{false, List, [], ◌∷◌, ◌++◌, Option, Some, None, eq-eqb, ◌==◌, ◌&&◌, slice_set}
+use Rattle.prem_cycle.proofs.Prelude.{touch_of, view_of, ReplacementRule, Target, choice, Choice, Run, Finished, TaskJobs}
 use Rattle.prem_cycle.proofs.RunsLemmas.InputsLemmas.Words.{tasks_with, task_with, set_with, takes_past, attempt_with, seen_with, after_with}
 use Rattle.prem_sched.specs.declared.sched.Choice.TheVariants.{Idle as Rest}
 

@@ -1,10 +1,10 @@
 -- A read past the end is a want of an input word.
+use Rattle.std.proofs.Common.{◌≡◌, ◌≢◌, ℕ, zero, suc, ◌<◌, refl, ap, ap₂, ◌∙◌, sym, subst, arith, cond, ⊎_elim, eq-eqb, eqb-true, Bool, true, false, List, [], ◌∷◌, Option, Some, None}
+use Rattle.std.specs.Prelude.{length, ◌↔◌, ◌==◌, ◌&&◌, ◌||◌, nat_le}
 use Rattle.prem_cycle.proofs.Prelude.{is_empty, CycleStep, coming_step, cycles_of, steps_of, wants_word, wants_input_of, is_past_end, has_read_past_end, Setup, MachineState, Request}
-use Rattle.prem_cycle.proofs.Prelude.{ReplacementRule, ◌≡◌, ◌≢◌, ℕ, zero, suc, ◌<◌, refl, ap, ap₂, ◌∙◌, sym, subst, arith, cond, ⊎_elim, eq-eqb, eqb-true, Bool, true, false, List, [], ◌∷◌}
-use Rattle.prem_cycle.proofs.Prelude.{Option, Some, None, cases_Bool, cases_eq, lt-leb, ◌↔◌, ◌==◌, ◌&&◌, ◌||◌, nat_le}
+use Rattle.prem_cycle.proofs.Prelude.{ReplacementRule, cases_Bool, cases_eq, lt-leb}
 use Rattle.prem_cycle.proofs.RunsLemmas.InputsLemmas.Cycles.{has_read-next, or_first, or_second}
 use Rattle.prem_cycle.proofs.RunsLemmas.InputsLemmas.Turns.{past_of}
-use Rattle.std.specs.Prelude.{length}
 
 -- ---- one cycle
 

@@ -1,8 +1,8 @@
 -- What a task's next instruction comes to in the machine is what it comes to on its own.
+use Rattle.std.proofs.Common.{◌≡◌, ℕ, zero, suc, ◌+◌, ◌<◌, ◌≤◌, refl, ap, ◌∙◌, sym, subst, Bool, true, Some, None, Option}
 use Rattle.prem_cycle.proofs.Prelude.{plain_of, Traps, Executes, attempt_by, attempt_fetched, attempt_in, value_of, effect_in, AllOwn, LoadsOwn, IsOwn, IsOwnOutcome, next_outcome, Setup}
 use Rattle.prem_cycle.proofs.Prelude.{Task, act_fits, act_lawful, act_same, fetch_same, fetch_fits, act, fetch, OnDone, EffectFits, EffectLawful, SameBytes, SameAccess, SameLoaded, Fits}
-use Rattle.prem_cycle.proofs.Prelude.{TaskRun, next_input, outcome_of, Access, Cause, Effect, Outcome, Trap, Done, Instr, Target, ◌≡◌, ℕ, zero, suc, ◌+◌, ◌<◌, ◌≤◌, refl, ap, ◌∙◌, sym, subst}
-use Rattle.prem_cycle.proofs.Prelude.{Bool, true, Some, None, Option, Result, Ok, Err, slice_index}
+use Rattle.prem_cycle.proofs.Prelude.{TaskRun, next_input, outcome_of, Access, Cause, Effect, Outcome, Trap, Done, Instr, Target, Result, Ok, Err, slice_index}
 
 -- two views agree on own bytes
 abbrev pub AgreeOn : (ℕ → Bool) → (ℕ → ℕ) → (ℕ → ℕ) → Type 0

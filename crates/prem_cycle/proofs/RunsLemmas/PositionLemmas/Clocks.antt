@@ -1,8 +1,8 @@
 -- The time of a run of one task without devices: what has passed and what is owed is at most what is due.
+use Rattle.std.proofs.Common.{◌≡◌, ℕ, zero, suc, ◌+◌, ◌-◌, ◌*◌, ◌/◌, ◌<◌, ◌≤◌, min, refl, ap, ◌∙◌, sym, subst, arith, cond, Some, None, Option, true, false, Bool, List, [], ◌∷◌, length}
 use Rattle.prem_cycle.proofs.Prelude.{want_of, paid_on_bus, is_paid, CoreMove, Passes, Issues, Setup, Work, Debt, CoreState, Mode, Point, Switching, Running, Idle, wants, Change, Stay}
 use Rattle.prem_cycle.proofs.Prelude.{Memory, Execute, End, Job, least_none, choice, run_or, rest, least_release, earlier, has_jobs_left, is_ready, released, first_ready, task_at, IsDone}
-use Rattle.prem_cycle.proofs.Prelude.{Run, Finished, TaskJobs, ◌≡◌, ℕ, zero, suc, ◌+◌, ◌-◌, ◌*◌, ◌/◌, ◌<◌, ◌≤◌, min, refl, ap, ◌∙◌, sym, subst, arith, cond, Some, None, Option, true, false}
-use Rattle.prem_cycle.proofs.Prelude.{Bool, List, [], ◌∷◌, length, lt-div-mul-add, ltb-true, ltb-false, mul-le, All}
+use Rattle.prem_cycle.proofs.Prelude.{Run, Finished, TaskJobs, lt-div-mul-add, ltb-true, ltb-false, mul-le, All}
 use Rattle.prem_cycle.proofs.CoreCases.{MoveCase, pays_on_bus, is_denied, pays_cost, waits, goes_on, switches, begins, chooses, chooses_now, begins_idle, has_finished, idles, Closes}
 use Rattle.prem_cycle.proofs.RunsLemmas.PositionLemmas.Debts.{total, ArePositive, wants_none, none_wanted, PaysOne, pays_one, paid_is}
 use Rattle.prem_sched.specs.declared.sched.Choice.TheVariants.{Idle as Rest}

@@ -1,7 +1,8 @@
 -- What an instruction makes the core owe, and how it is paid.
+use Rattle.std.proofs.Common.{◌≡◌, ℕ, ◌+◌, ◌-◌, ◌*◌, ◌/◌, ◌<◌, ◌≤◌, refl, ap, ◌∙◌, sym, arith, cond, leb, Some, None, Option, true, false, Bool, List, [], ◌∷◌, ◌++◌}
+use Rattle.std.specs.Prelude.{◌&&◌, ◌==◌}
 use Rattle.prem_cycle.proofs.Prelude.{is_empty, want_of, paid_on_bus, is_paid, LineTouch, line_touch, issued_with, owed_for, owed_by, data_accesses, Task, Debt, wants, No, New, Held, Access}
-use Rattle.prem_cycle.proofs.Prelude.{Stored, Touched, touch_of, ReplacementRule, IsPlant, Plant, ◌≡◌, ℕ, ◌+◌, ◌-◌, ◌*◌, ◌/◌, ◌<◌, ◌≤◌, refl, ap, ◌∙◌, sym, arith, cond, leb, Some, None}
-use Rattle.prem_cycle.proofs.Prelude.{Option, true, false, Bool, List, [], ◌∷◌, ◌++◌, cond_both, leb-true, leb-false, and_parts, ◌&&◌, ◌==◌}
+use Rattle.prem_cycle.proofs.Prelude.{Stored, Touched, touch_of, ReplacementRule, IsPlant, Plant, cond_both, leb-true, leb-false, and_parts}
 
 -- ---- lists of transactions
 

@@ -1,8 +1,8 @@
 -- What is due for the instructions of a run on its own, and what grows along it.
+use Rattle.std.proofs.Common.{◌≡◌, ℕ, zero, suc, ◌+◌, ◌-◌, ◌*◌, ◌≤◌, ap, ◌∙◌, refl, sym, subst, arith, Some, None, Option, List, [], ◌∷◌, length}
 use Rattle.prem_cycle.proofs.Prelude.{data_accesses, due_of, did_cost, plain_steps-next, plain_trace-add, fetch, cost_of, greatest_cost, TaskRun, PlainState, with_last, after_change}
 use Rattle.prem_cycle.proofs.Prelude.{after_outcome, moved_by, is_running, outcome_of, plain_start, plain_step, plain_steps, plain_run, Did, plain_did, plain_trace, Access, Change, Stay}
-use Rattle.prem_cycle.proofs.Prelude.{Memory, Execute, End, Job, Outcome, Trap, Done, Plant, ◌≡◌, ℕ, zero, suc, ◌+◌, ◌-◌, ◌*◌, ◌≤◌, ap, ◌∙◌, refl, sym, subst, arith, Some, None, Option}
-use Rattle.prem_cycle.proofs.Prelude.{List, [], ◌∷◌, length, cond_both, length-append, sum_by-append, mul-le, sum_by}
+use Rattle.prem_cycle.proofs.Prelude.{Memory, Execute, End, Job, Outcome, Trap, Done, Plant, cond_both, length-append, sum_by-append, mul-le, sum_by}
 
 -- ---- what is due
 

@@ -1,6 +1,7 @@
 -- What is due for a job that does nothing, counted by hand from its seven instructions: they cost 11 cycles, and there are
 -- seven fetches, a store and a load.
-use Rattle.prem_cycle.proofs.Prelude.{cycles_of, steps_of, run_alone, lone_issued, finish_of, TaskRun, plain_start, plain_steps, plain_run, plain_trace, to_front, ◌≡◌, ℕ, refl, []}
+use Rattle.std.proofs.Common.{◌≡◌, ℕ, refl, []}
+use Rattle.prem_cycle.proofs.Prelude.{cycles_of, steps_of, run_alone, lone_issued, finish_of, TaskRun, plain_start, plain_steps, plain_run, plain_trace, to_front}
 use Rattle.prem_cycle.proofs.Images.{bytes_in, nothing, plant, task}
 
 abbrev run : ℕ → TaskRun

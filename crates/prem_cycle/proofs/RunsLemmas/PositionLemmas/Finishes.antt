@@ -1,10 +1,11 @@
 -- A run of one task without devices finishes in time.
+use Rattle.std.proofs.Common.{◌≡◌, ℕ, zero, suc, ◌+◌, ◌-◌, ◌*◌, ◌<◌, ◌≤◌, refl, ap, ◌∙◌, sym, subst, arith, leb, None, true, false, Bool, List, [], ◌∷◌, length, get_or, ⊎_elim}
+use Rattle.std.specs.Prelude.{◌||◌, is_some}
 use Rattle.prem_cycle.proofs.Prelude.{arrivals_at, bus_at, core_at, is_finish, is_finished_in, is_finished, output_count, log_size, is_full, is_over, cycle_of, memory_of, run_of, lone}
 use Rattle.prem_cycle.proofs.Prelude.{run_alone, IsLone, finish_of, EndsIn, FinishedAs, FinishesInTime, FinishesOneJob, issued_of, AreOwn, IsRunnable, Setup, no_record, first_task, Task}
 use Rattle.prem_cycle.proofs.Prelude.{Debt, MachineState, start_of, task_in, Mode, Point, Switching, Running, Idle, TaskRecord, greatest_cost, TaskRun, PlainState, is_running, plain_start}
 use Rattle.prem_cycle.proofs.Prelude.{plain_run, plain_trace, Change, Stay, Memory, Execute, End, Job, ReplacementRule, IsRule, Plant, choice, no_task, task_at, IsDone, Choice, Run}
-use Rattle.prem_cycle.proofs.Prelude.{Finished, TaskJobs, ◌≡◌, ℕ, zero, suc, ◌+◌, ◌-◌, ◌*◌, ◌<◌, ◌≤◌, refl, ap, ◌∙◌, sym, subst, arith, leb, None, true, false, Bool, List, [], ◌∷◌, length}
-use Rattle.prem_cycle.proofs.Prelude.{get_or, ⊎_elim, cases_Bool, lt-leb, mul-le, ◌||◌, is_some}
+use Rattle.prem_cycle.proofs.Prelude.{Finished, TaskJobs, cases_Bool, lt-leb, mul-le}
 use Rattle.prem_cycle.proofs.CycleParts.{cycle_trapped, cycle_goes}
 use Rattle.prem_cycle.proofs.RunLaws.{cycles_of-next, step_of-goes}
 use Rattle.prem_cycle.proofs.RunsLemmas.PositionLemmas.Clocks.{begun_in, Waiting, finish_done}

@@ -1,10 +1,11 @@
 -- The gates write to lines of their devices alone.
+use Rattle.std.proofs.Common.{◌≡◌, ℕ, suc, ◌+◌, ◌*◌, ◌/◌, ◌%◌, ◌<◌, ◌≤◌, refl, ap, ◌∙◌, sym, subst, arith, eqb, leb, Some, None, Option, true, false, Bool, List, [], ◌∷◌, ◌++◌, length, drop}
+use Rattle.std.proofs.Common.{IfSome, ⊎_elim}
 use Rattle.prem_cycle.proofs.Prelude.{Arrivals, arrived, arrivals, no_device, IsRequest, device_of, IsFree, Setup, Work, GateState, GatesState, Turned, gate_at, no_gate, with_queue}
 use Rattle.prem_cycle.proofs.Prelude.{with_gates, with_carried, queued, after_arrival, fits, first_of, startable_from, startable, taken, slot_of, memory_after, one_less, ends, goes_on}
 use Rattle.prem_cycle.proofs.Prelude.{carries, wants, starts, bus_free, bus_with, bus_turn, Carried, CoreWant, No, New, Held, Window, Request, IsPlaced, DeviceRecord, length-bytes_of}
-use Rattle.prem_cycle.proofs.Prelude.{apart_bytes, CacheState, is_resident, view_of, bytes_of, spliced, Plant, ◌≡◌, ℕ, suc, ◌+◌, ◌*◌, ◌/◌, ◌%◌, ◌<◌, ◌≤◌, refl, ap, ◌∙◌, sym, subst, arith}
-use Rattle.prem_cycle.proofs.Prelude.{eqb, leb, Some, None, Option, true, false, Bool, List, [], ◌∷◌, ◌++◌, length, drop, IfSome, ⊎_elim, cases_eq, cases_Bool, cond_both, get_or-set_same}
-use Rattle.prem_cycle.proofs.Prelude.{get_or-set_other, length-set, All-push, All-head, All-tail, mod-mul-add, div-add-mod', mul-le, slice_set, All}
+use Rattle.prem_cycle.proofs.Prelude.{apart_bytes, CacheState, is_resident, view_of, bytes_of, spliced, Plant, cases_eq, cases_Bool, cond_both, get_or-set_same, get_or-set_other, length-set}
+use Rattle.prem_cycle.proofs.Prelude.{All-push, All-head, All-tail, mod-mul-add, div-add-mod', mul-le, slice_set, All}
 use Rattle.prem_cycle.proofs.RunsLemmas.PositionLemmas.Turns.{BusKeeps}
 use Rattle.prem_cycle.proofs.RunsLemmas.PositionLemmas.Works.{IsKept, kept_plant}
 use Rattle.prem_gate.specs.Gates.{is_full, start_of}

@@ -1,6 +1,6 @@
 -- The run of an image of one task without devices.
-use Rattle.prem_cycle.proofs.Prelude.{setup_of, words_of, image_run, run_of, lone_run, IsLone, FinishedAs, Setup, IsTask, DeviceRecord, TaskRecord, ReplacementRule, ◌≡◌, ℕ, ap, ◌∙◌, sym}
-use Rattle.prem_cycle.proofs.Prelude.{subst, List, [], ◌∷◌, All-head, All}
+use Rattle.std.proofs.Common.{◌≡◌, ℕ, ap, ◌∙◌, sym, subst, List, [], ◌∷◌}
+use Rattle.prem_cycle.proofs.Prelude.{setup_of, words_of, image_run, run_of, lone_run, IsLone, FinishedAs, Setup, IsTask, DeviceRecord, TaskRecord, ReplacementRule, All-head, All}
 use Rattle.prem_cycle.proofs.RunsLemmas.PositionLemmas.Finishes.{finishes_in_time, finishes_one_job}
 use Rattle.prem_cycle.specs.Runs.Position.Images.{IsLoneImage, image_alone, ImageFinishesInTime, ImageFinishesOneJob}
 use Rattle.prem_gate.specs.declared.request.RunInput.{RunInput}

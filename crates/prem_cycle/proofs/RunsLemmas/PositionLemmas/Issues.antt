@@ -1,9 +1,9 @@
 -- Each instruction that issues is the next one of its task's run on its own.
+use Rattle.std.proofs.Common.{◌≡◌, ℕ, refl, ap, ◌∙◌, sym, subst, cond, Some, None, Option, true, false, Bool, List}
 use Rattle.prem_cycle.proofs.Prelude.{plain_of, CoreMove, Passes, Issues, arrivals_at, bus_at, with_memory, move_at, is_over, Traps, Executes, attempt_by, attempt_fetched, attempt_in}
 use Rattle.prem_cycle.proofs.Prelude.{issued_by, CycleStep, step_by, step_in, step_with, coming_step, memory_of, run_of, issued_of, AreOwn, IsRunnable, IssuedAsAlone, InstructionsAreAlone}
 use Rattle.prem_cycle.proofs.Prelude.{Setup, Task, Work, MachineState, start_of, task_in, Turned, Request, act, fetch, TaskRun, PlainState, next_input, is_running, Did, did_of, did_with}
-use Rattle.prem_cycle.proofs.Prelude.{did_fetched, plain_did, plain_run, Cause, Effect, Outcome, Trap, Done, Phase, Instr, ReplacementRule, IsRule, TaskJobs, ◌≡◌, ℕ, refl, ap, ◌∙◌, sym}
-use Rattle.prem_cycle.proofs.Prelude.{subst, cond, Some, None, Option, true, false, Bool, List, Result, Ok, Err, slice_index}
+use Rattle.prem_cycle.proofs.Prelude.{did_fetched, plain_did, plain_run, Cause, Effect, Outcome, Trap, Done, Phase, Instr, ReplacementRule, IsRule, TaskJobs, Result, Ok, Err, slice_index}
 use Rattle.prem_cycle.proofs.CoreCases.{move_cases}
 use Rattle.prem_cycle.proofs.RunsLemmas.PositionLemmas.Positions.{run_stands}
 use Rattle.prem_cycle.proofs.RunsLemmas.PositionLemmas.Runs.{AllAt, runs_of, keeps_of}

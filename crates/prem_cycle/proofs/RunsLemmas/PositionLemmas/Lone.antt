@@ -1,9 +1,10 @@
 -- One task without devices: all of memory is its own.
+use Rattle.std.proofs.Common.{◌≡◌, ℕ, zero, suc, ◌+◌, ◌-◌, ◌/◌, ◌<◌, ◌≤◌, refl, ap, ◌∙◌, sym, arith, cond, ltb, Some, None, Option, true, false, Bool, List, [], ◌∷◌, ◌++◌, length, get_or}
+use Rattle.std.proofs.Common.{replicate, IfSome, ⊎_elim, ◌⊎◌, inl, inr, is_none}
+use Rattle.std.specs.Prelude.{All, ◌&&◌}
 use Rattle.prem_cycle.proofs.Prelude.{IsRequest, memory_of, lone, run_alone, NeverTraps, IsLone, EndsIn, IsRunOf, AreOwn, IsRunnable, AllOwn, LoadsOwn, IsFree, IsOwn, IsOwnOutcome}
 use Rattle.prem_cycle.proofs.Prelude.{next_outcome, StaysOwn, IsPlaced, TaskRecord, plain_steps-next, plain_stays, plain_run-add, TaskRun, PlainState, RunFits, is_running, after_outcome}
-use Rattle.prem_cycle.proofs.Prelude.{plain_start, plain_run, Access, Cause, Effect, Outcome, Trap, Done, Stored, Plant, ◌≡◌, ℕ, zero, suc, ◌+◌, ◌-◌, ◌/◌, ◌<◌, ◌≤◌, refl, ap, ◌∙◌, sym}
-use Rattle.prem_cycle.proofs.Prelude.{arith, cond, ltb, Some, None, Option, true, false, Bool, List, [], ◌∷◌, ◌++◌, length, get_or, replicate, IfSome, ⊎_elim, ◌⊎◌, inl, inr, is_none}
-use Rattle.prem_cycle.proofs.Prelude.{cases_lt, le-ltb, All-nil, All, ◌&&◌}
+use Rattle.prem_cycle.proofs.Prelude.{plain_start, plain_run, Access, Cause, Effect, Outcome, Trap, Done, Stored, Plant, cases_lt, le-ltb, All-nil}
 
 -- every byte
 abbrev pub whole : ℕ → Bool

@@ -1,6 +1,7 @@
 -- Where a run of one task without devices stands.
+use Rattle.std.proofs.Common.{◌≡◌, ℕ, zero, suc, ◌<◌, refl, ap, arith, Some, [], ◌∷◌}
 use Rattle.prem_cycle.proofs.Prelude.{plain_of, did_in, memory_of, lone, run_alone, lone_run, lone_issued, LoneStandsAsAlone, LoneIssuesAsAlone, issued_of, StandsAsAlone, IssuedAsAlone}
-use Rattle.prem_cycle.proofs.Prelude.{Setup, MachineState, start_of, task_in, TaskRun, PlainState, Did, plain_did, plain_run, ◌≡◌, ℕ, zero, suc, ◌<◌, refl, ap, arith, Some, [], ◌∷◌}
+use Rattle.prem_cycle.proofs.Prelude.{Setup, MachineState, start_of, task_in, TaskRun, PlainState, Did, plain_did, plain_run}
 use Rattle.prem_cycle.proofs.RunsLemmas.PositionLemmas.Issues.{instructions_are_alone}
 use Rattle.prem_cycle.proofs.RunsLemmas.PositionLemmas.Lone.{all_whole, lone_runnable, lone_own}
 use Rattle.prem_cycle.proofs.RunsLemmas.PositionLemmas.Positions.{tasks_stand_as_alone}

@@ -1,8 +1,8 @@
 -- Over a run each task stands where it stands on its own.
+use Rattle.std.proofs.Common.{◌≡◌, ℕ, zero, suc, ◌+◌, refl, ap, ◌∙◌, sym, subst, arith, cond, eqb, None, Option, true, false, Bool, List, [], ◌∷◌, ◌++◌, ⊎_elim}
 use Rattle.prem_cycle.proofs.Prelude.{CoreMove, Passes, Issues, Arrivals, arrivals_at, bus_at, with_memory, move_at, is_over, cycle_of, step_of, behind_touches, CycleStep, step_by, step_in}
 use Rattle.prem_cycle.proofs.Prelude.{step_with, coming_step, memory_of, cycles_of, steps_of, count_of, issued_of, IsRunOf, AreOwn, IsRunnable, Setup, Work, MachineState, Turned, Request}
-use Rattle.prem_cycle.proofs.Prelude.{TaskRun, with_last, ReplacementRule, IsRule, TaskJobs, ◌≡◌, ℕ, zero, suc, ◌+◌, refl, ap, ◌∙◌, sym, subst, arith, cond, eqb, None, Option, true, false}
-use Rattle.prem_cycle.proofs.Prelude.{Bool, List, [], ◌∷◌, ◌++◌, ⊎_elim, cases_Bool, sum_by-append}
+use Rattle.prem_cycle.proofs.Prelude.{TaskRun, with_last, ReplacementRule, IsRule, TaskJobs, cases_Bool, sum_by-append}
 use Rattle.prem_cycle.proofs.CoreCases.{move_cases}
 use Rattle.prem_cycle.proofs.CycleParts.{cycle_gates}
 use Rattle.prem_cycle.proofs.RunsLemmas.PositionLemmas.Gated.{AreGates, arrivals_gates, Turns, bus_turns, written_keeps}

@@ -1,11 +1,12 @@
 -- The end of a cycle of one task without devices, and its whole run.
+use Rattle.std.proofs.Common.{◌≡◌, ℕ, zero, suc, ◌+◌, ◌-◌, ◌*◌, ◌<◌, ◌≤◌, refl, ap, ◌∙◌, sym, subst, arith, cond, ltb, None, Option, true, false, Bool, List, [], ◌∷◌, length, ⊎_elim}
+use Rattle.std.specs.Prelude.{◌&&◌, ◌||◌, is_some}
 use Rattle.prem_cycle.proofs.Prelude.{want_of, is_paid, CoreMove, CoreTurn, Arrivals, arrivals_at, bus_at, with_memory, with_clash, move_at, core_at, joined, ends_before, sched_after}
 use Rattle.prem_cycle.proofs.Prelude.{ended_interval, at_point, close_interval, settle, with_now, next_cycle, is_finish, is_finished_in, is_finished, is_full, is_over, cycle_of, step_of}
 use Rattle.prem_cycle.proofs.Prelude.{CycleStep, step_with, coming_step, memory_of, cycles_of, steps_of, lone, run_alone, IsLone, EndsIn, count_of, issued_of, AreOwn, IsRunnable, Setup}
 use Rattle.prem_cycle.proofs.Prelude.{Work, Debt, MachineState, start_of, Interval, Mode, Point, Switching, Running, Idle, GatesState, Turned, wants, TaskRecord, TaskRun, with_last, Change}
-use Rattle.prem_cycle.proofs.Prelude.{Stay, Memory, Execute, End, Job, ReplacementRule, IsRule, Plant, choice, no_task, task_at, with_job, Finished, TaskJobs, ◌≡◌, ℕ, zero, suc, ◌+◌, ◌-◌}
-use Rattle.prem_cycle.proofs.Prelude.{◌*◌, ◌<◌, ◌≤◌, refl, ap, ◌∙◌, sym, subst, arith, cond, ltb, None, Option, true, false, Bool, List, [], ◌∷◌, length, ⊎_elim, cond_both, cases_Bool}
-use Rattle.prem_cycle.proofs.Prelude.{and_parts, ltb-true, get_or-set_same, length-append, ◌&&◌, ◌||◌, is_some}
+use Rattle.prem_cycle.proofs.Prelude.{Stay, Memory, Execute, End, Job, ReplacementRule, IsRule, Plant, choice, no_task, task_at, with_job, Finished, TaskJobs, cond_both, cases_Bool}
+use Rattle.prem_cycle.proofs.Prelude.{and_parts, ltb-true, get_or-set_same, length-append}
 use Rattle.prem_cycle.proofs.CoreCases.{move_cases}
 use Rattle.prem_cycle.proofs.RunsLemmas.PositionLemmas.Clocks.{Marked, MayMark, Waiting, Clocked, Clocking, MoveClock, move_clock, rest_is}
 use Rattle.prem_cycle.proofs.RunsLemmas.PositionLemmas.Debts.{paid_none}

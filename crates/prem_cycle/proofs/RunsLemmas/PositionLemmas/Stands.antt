@@ -1,9 +1,9 @@
 -- Each task stands where it stands on its own, and so it does behind an instruction.
+use Rattle.std.proofs.Common.{◌≡◌, ◌≢◌, ℕ, zero, suc, ◌+◌, ◌-◌, ◌<◌, ◌≤◌, refl, ap, ◌∙◌, sym, subst, arith, cond, eqb, Some, None, Option, true, Bool, List, length, IfSome, ⊎_elim}
 use Rattle.prem_cycle.proofs.Prelude.{plain_of, ended_after, Executes, attempt_in, attempt_of, view_behind, behind_touches, attempt_behind, task_moved, task_changed, task_after, issued_by}
 use Rattle.prem_cycle.proofs.Prelude.{AllOwn, IsOwn, IsOwnOutcome, next_outcome, Setup, record_of, first_list, Task, Work, task_in, TaskRecord, plain_fits, plain_steps-next}
 use Rattle.prem_cycle.proofs.Prelude.{list_with_register, with_stored, EffectFits, EffectLawful, TaskRun, PlainState, is_running, plain_step, plain_run, RunFits, StateFits, Change, Stay}
-use Rattle.prem_cycle.proofs.Prelude.{Memory, Execute, End, Job, Effect, Stored, Instr, put_below, put_above, view_of, ReplacementRule, IsRule, ◌≡◌, ◌≢◌, ℕ, zero, suc, ◌+◌, ◌-◌, ◌<◌, ◌≤◌}
-use Rattle.prem_cycle.proofs.Prelude.{refl, ap, ◌∙◌, sym, subst, arith, cond, eqb, Some, None, Option, true, Bool, List, length, IfSome, ⊎_elim, cases_lt, ne_eqb, length-set, slice_set}
+use Rattle.prem_cycle.proofs.Prelude.{Memory, Execute, End, Job, Effect, Stored, Instr, put_below, put_above, view_of, ReplacementRule, IsRule, cases_lt, ne_eqb, length-set, slice_set}
 use Rattle.prem_cycle.proofs.RunsLemmas.PositionLemmas.Attempts.{AgreeOn, Next, next_of, seen_same}
 use Rattle.prem_cycle.proofs.RunsLemmas.PositionLemmas.Works.{IsKept, Issue, issue_facts, behind_view}
 use Rattle.prem_cycle.proofs.SamePlain.{plain_step-same}

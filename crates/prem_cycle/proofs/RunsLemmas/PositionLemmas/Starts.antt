@@ -1,9 +1,10 @@
 -- At the start each task is where its run on its own starts.
+use Rattle.std.proofs.Common.{◌≡◌, ℕ, zero, suc, ◌+◌, ◌-◌, ◌/◌, ◌%◌, ◌<◌, ◌≤◌, refl, ap, ◌∙◌, sym, subst, arith, Some, None, true, false, Bool, List, [], ◌∷◌, ◌++◌, length, get_or}
+use Rattle.std.proofs.Common.{replicate}
 use Rattle.prem_cycle.proofs.Prelude.{plain_of, no_device, memory_of, IsRunOf, AreOwn, IsRunnable, device_of, Setup, no_record, record_of, first_task, first_tasks, Task, start_of, gate_of}
 use Rattle.prem_cycle.proofs.Prelude.{gates_of, gate_at, Request, DeviceRecord, TaskRecord, first_registers, TaskRun, PlainState, plain_start, plain_steps, plain_run, Compatible}
-use Rattle.prem_cycle.proofs.Prelude.{empty_cache, entry_of, view_of, byte_in, IsSet, IsCache, Entry, find_line, IsPlant, Device, Plant, starts_of, no_task, task_at, TaskJobs, ◌≡◌, ℕ, zero}
-use Rattle.prem_cycle.proofs.Prelude.{suc, ◌+◌, ◌-◌, ◌/◌, ◌%◌, ◌<◌, ◌≤◌, refl, ap, ◌∙◌, sym, subst, arith, Some, None, true, false, Bool, List, [], ◌∷◌, ◌++◌, length, get_or, replicate}
-use Rattle.prem_cycle.proofs.Prelude.{get_or-map, length-map, length-append, length-replicate, All-nil, slice_index, is_some}
+use Rattle.prem_cycle.proofs.Prelude.{empty_cache, entry_of, view_of, byte_in, IsSet, IsCache, Entry, find_line, IsPlant, Device, Plant, starts_of, no_task, task_at, TaskJobs, get_or-map}
+use Rattle.prem_cycle.proofs.Prelude.{length-map, length-append, length-replicate, All-nil, slice_index, is_some}
 use Rattle.prem_cycle.proofs.RunsLemmas.PositionLemmas.Gated.{IsGateOf, AreGates}
 use Rattle.prem_cycle.proofs.RunsLemmas.PositionLemmas.Runs.{AllAt}
 use Rattle.prem_cycle.proofs.RunsLemmas.PositionLemmas.Stands.{IsAt}

@@ -1,9 +1,10 @@
 -- A run of one task without devices keeps to what is due.
+use Rattle.std.proofs.Common.{◌≡◌, ℕ, zero, suc, ◌+◌, ◌-◌, ◌*◌, ◌/◌, ◌<◌, ◌≤◌, refl, ap, ◌∙◌, sym, subst, arith, Some, None, true, false, List, [], ⊎_elim}
 use Rattle.prem_cycle.proofs.Prelude.{CoreMove, Passes, Issues, CoreTurn, core_issue, core_turn, task_moved, task_changed, task_after, LineTouch, owed_by, issued_by, lone, run_alone, EndsIn}
 use Rattle.prem_cycle.proofs.Prelude.{due_of, data_accesses, Setup, record_of, Task, Work, CoreState, Counts, task_in, Interval, GatesState, Turned, startable_from, wants, bus_with}
 use Rattle.prem_cycle.proofs.Prelude.{bus_turn, CoreWant, No, New, Held, Window, TaskRecord, cost_bounds, phase_after, IsLawful, cost_of, TaskRun, PlainState, is_running, plain_run, Did}
 use Rattle.prem_cycle.proofs.Prelude.{did_of, plain_did, Change, Stay, Memory, Execute, End, Job, Phase, Compatible, Execution, touch_of, ReplacementRule, IsRule, IsPlant, Plant, TaskJobs}
-use Rattle.prem_cycle.proofs.Prelude.{◌≡◌, ℕ, zero, suc, ◌+◌, ◌-◌, ◌*◌, ◌/◌, ◌<◌, ◌≤◌, refl, ap, ◌∙◌, sym, subst, arith, Some, None, true, false, List, [], ⊎_elim, cases_lt, slice_set}
+use Rattle.prem_cycle.proofs.Prelude.{cases_lt, slice_set}
 use Rattle.prem_cycle.proofs.RunsLemmas.PositionLemmas.Clocks.{MayMark, Clocking, ReadyClock, MoveClock}
 use Rattle.prem_cycle.proofs.RunsLemmas.PositionLemmas.Debts.{total, owed_positive, owed_at_most}
 use Rattle.prem_cycle.proofs.RunsLemmas.PositionLemmas.Dues.{dues_of, dues_next}

@@ -1,10 +1,11 @@
 -- Where the tasks stand behind the core's part of a cycle, and behind the cycle.
+use Rattle.std.proofs.Common.{◌≡◌, ℕ, ◌+◌, ◌<◌, refl, ap, ◌∙◌, sym, subst, arith, cond, ltb, None, true, Bool, List, [], length, get_or, ⊎_elim}
+use Rattle.std.specs.Prelude.{slice_set, is_some, ◌&&◌}
 use Rattle.prem_cycle.proofs.Prelude.{plain_of, ended_after, is_paid, CoreMove, Passes, Issues, CoreTurn, core_issue, core_turn, Arrivals, with_memory, with_clash, move_at, core_at, joined}
 use Rattle.prem_cycle.proofs.Prelude.{ends_before, at_point, close_interval, settle, with_now, next_cycle, ticked, cycle_with, task_after, issued_by, StaysOwn, Setup, record_of, no_record}
 use Rattle.prem_cycle.proofs.Prelude.{first_task, Task, Work, CoreState, Counts, MachineState, task_in, Mode, Point, Switching, Running, Idle, Turned, with_stored, TaskRun, PlainState}
-use Rattle.prem_cycle.proofs.Prelude.{is_running, plain_run, Change, Stay, Memory, Execute, End, Job, view_of, ReplacementRule, IsRule, task_at, TaskJobs, ◌≡◌, ℕ, ◌+◌, ◌<◌, refl, ap, ◌∙◌}
-use Rattle.prem_cycle.proofs.Prelude.{sym, subst, arith, cond, ltb, None, true, Bool, List, [], length, get_or, ⊎_elim, cases_eq, cond_both, lt-ltb, get_or-set_same, get_or-set_other}
-use Rattle.prem_cycle.proofs.Prelude.{length-set, slice_set, is_some, ◌&&◌}
+use Rattle.prem_cycle.proofs.Prelude.{is_running, plain_run, Change, Stay, Memory, Execute, End, Job, view_of, ReplacementRule, IsRule, task_at, TaskJobs, cases_eq, cond_both, lt-ltb}
+use Rattle.prem_cycle.proofs.Prelude.{get_or-set_same, get_or-set_other, length-set}
 use Rattle.prem_cycle.proofs.CoreCases.{move_cases}
 use Rattle.prem_cycle.proofs.RunsLemmas.PositionLemmas.MayMoves.{turn_with}
 use Rattle.prem_cycle.proofs.RunsLemmas.PositionLemmas.Schedules.{ends_job, ended_more, uncounted, uncounted_same, uncounted_other, Unfinished, GoesOn, Schedules, Ready, Moves, moves}

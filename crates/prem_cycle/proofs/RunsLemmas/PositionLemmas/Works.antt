@@ -1,9 +1,8 @@
 -- The cache and memory behind an instruction: what they keep, and what the core sees.
+use Rattle.std.proofs.Common.{◌≡◌, ℕ, zero, suc, ◌+◌, ◌*◌, ◌/◌, ◌%◌, ◌<◌, ◌≤◌, refl, ap, ◌∙◌, sym, subst, arith, cond, eqb, true, false, Some, None, Option, List, length, IfSome, ⊎_elim}
 use Rattle.prem_cycle.proofs.Prelude.{task_after, stored_in, touched_with, view_behind, issued_with, issued_by, IsFree, Setup, record_of, Task, Work, task_in, with_stored, IsSize}
 use Rattle.prem_cycle.proofs.Prelude.{AccessMatches, EffectFits, Access, Effect, Stored, store_kept, store_resident, store_clean, store_view, CacheState, Touched, touch_of, view_of}
-use Rattle.prem_cycle.proofs.Prelude.{entry_of, is_resident, IsClean, IsCache, Entry, ReplacementRule, IsRule, IsPlant, Plant, ◌≡◌, ℕ, zero, suc, ◌+◌, ◌*◌, ◌/◌, ◌%◌, ◌<◌, ◌≤◌, refl, ap, ◌∙◌}
-use Rattle.prem_cycle.proofs.Prelude.{sym, subst, arith, cond, eqb, true, false, Some, None, Option, List, length, IfSome, ⊎_elim, div-lt_iff_lt-mul, cases_eq, div-add-mod', slice_set}
-use Rattle.prem_cycle.proofs.Prelude.{is_some}
+use Rattle.prem_cycle.proofs.Prelude.{entry_of, is_resident, IsClean, IsCache, Entry, ReplacementRule, IsRule, IsPlant, Plant, div-lt_iff_lt-mul, cases_eq, div-add-mod', slice_set, is_some}
 use Rattle.prem_isa.specs.Bounds.{IsPlaced}
 use Rattle.prem_lru.proofs.Caches.{access_within}
 use Rattle.prem_lru.proofs.Shapes.{touch_kept}

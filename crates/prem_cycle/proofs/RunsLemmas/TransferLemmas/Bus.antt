@@ -1,8 +1,8 @@
 -- A cycle of the bus brings the transfer that it carries one cycle nearer to its end.
+use Rattle.std.proofs.Common.{◌≡◌, ℕ, zero, suc, ◌+◌, ◌<◌, ◌≤◌, refl, ap, sym, subst, ◌∙◌, arith, eqb, leb, Some, None, Option, true, false, Bool, List, [], ◌∷◌, length, drop, map, IfSome}
 use Rattle.prem_cycle.proofs.Prelude.{Arrivals, arrived, arrivals, device_cost, IsOnItsWay, HaveCosts, startable_is, GateState, GatesState, Turned, gate_at, with_queue, with_gates, queued}
 use Rattle.prem_cycle.proofs.Prelude.{after_arrival, startable, taken, ends, goes_on, carries, wants, starts, bus_free, bus_with, bus_turn, IsStart, Carried, CoreWant, No, New, Held, Window}
-use Rattle.prem_cycle.proofs.Prelude.{Request, DeviceRecord, ◌≡◌, ℕ, zero, suc, ◌+◌, ◌<◌, ◌≤◌, refl, ap, sym, subst, ◌∙◌, arith, eqb, leb, Some, None, Option, true, false, Bool, List, []}
-use Rattle.prem_cycle.proofs.Prelude.{◌∷◌, length, drop, map, IfSome, cond_both, leb-true, leb-false, slice_set, slice_get}
+use Rattle.prem_cycle.proofs.Prelude.{Request, DeviceRecord, cond_both, leb-true, leb-false, slice_set, slice_get}
 use Rattle.prem_cycle.specs.Runs.Transfer.Lengths.{EndsIn}
 use Rattle.prem_gate.specs.Gates.{is_full}
 use Rattle.std.specs.Option.{option_map_or}

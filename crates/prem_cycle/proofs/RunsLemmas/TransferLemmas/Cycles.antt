@@ -1,9 +1,9 @@
 -- So does a cycle of the machine, and a run.
+use Rattle.std.proofs.Common.{◌≡◌, ℕ, zero, suc, ◌+◌, refl, ap, sym, subst, ◌∙◌, arith, cond, ltb, Some, None, Option, true, false, Bool, List, [], ◌∷◌, map, IfSome}
+use Rattle.std.specs.Prelude.{is_some, ◌&&◌, ◌||◌}
 use Rattle.prem_cycle.proofs.Prelude.{is_paid, want_of, Arrivals, arrivals_at, bus_at, core_at, joined, ends_before, at_point, close_interval, settle, with_now, next_cycle, ticked, cycle_of}
 use Rattle.prem_cycle.proofs.Prelude.{is_finished, is_full, is_over, step_of, memory_of, cycles_of, run_of, IsOnItsWay, EndsInTime, TransfersTakeTheirCycles, TransfersAreOnTheirWay}
-use Rattle.prem_cycle.proofs.Prelude.{HaveCosts, Setup, MachineState, start_of, Mode, Point, Switching, Running, Idle, Turned, gates_of, Request, DeviceRecord, ReplacementRule, ◌≡◌, ℕ, zero}
-use Rattle.prem_cycle.proofs.Prelude.{suc, ◌+◌, refl, ap, sym, subst, ◌∙◌, arith, cond, ltb, Some, None, Option, true, false, Bool, List, [], ◌∷◌, map, IfSome, cond_both, is_some, ◌&&◌}
-use Rattle.prem_cycle.proofs.Prelude.{◌||◌}
+use Rattle.prem_cycle.proofs.Prelude.{HaveCosts, Setup, MachineState, start_of, Mode, Point, Switching, Running, Idle, Turned, gates_of, Request, DeviceRecord, ReplacementRule, cond_both}
 use Rattle.prem_cycle.proofs.RunsLemmas.TransferLemmas.Bus.{costs_of, costs_in, GatesKeep, TurnKeeps, arrivals_keep, turn_keeps}
 
 -- ---- states

@@ -1,8 +1,8 @@
 -- What the bus carries stays inside the window, and where the window is closed it carries nothing.
+use Rattle.std.proofs.Common.{◌≡◌, ℕ, ◌+◌, ◌<◌, ◌≤◌, refl, ap, sym, subst, arith, eqb, leb, Some, None, Option, true, false, Bool, List, [], ◌∷◌, ◌++◌, length, drop, IfSome, ⊎_elim}
 use Rattle.prem_cycle.proofs.Prelude.{Arrivals, arrived, arrivals, LiesInside, CarriesInside, IsQuiet, startable_is, GateState, GatesState, Turned, gate_at, no_gate, with_queue, with_gates}
 use Rattle.prem_cycle.proofs.Prelude.{queued, after_arrival, startable, taken, ends, goes_on, carries, wants, starts, bus_free, bus_with, bus_turn, IsStart, Carried, CoreWant, No, New, Held}
-use Rattle.prem_cycle.proofs.Prelude.{Window, Request, ◌≡◌, ℕ, ◌+◌, ◌<◌, ◌≤◌, refl, ap, sym, subst, arith, eqb, leb, Some, None, Option, true, false, Bool, List, [], ◌∷◌, ◌++◌, length, drop}
-use Rattle.prem_cycle.proofs.Prelude.{IfSome, ⊎_elim, cases_lt, cond_both, leb-false, get_or_past, All-set, slice_set, All}
+use Rattle.prem_cycle.proofs.Prelude.{Window, Request, cases_lt, cond_both, leb-false, get_or_past, All-set, slice_set, All}
 use Rattle.prem_gate.specs.Gates.{is_full}
 
 -- ---- costs

@@ -1,12 +1,13 @@
 -- A cycle keeps that windows hold, and so does a run.
+use Rattle.std.proofs.Common.{◌≡◌, ℕ, zero, suc, ◌+◌, ◌<◌, ◌≤◌, refl, ap, ◌∙◌, sym, subst, arith, cond, ltb, Some, None, Option, true, false, Bool, List, [], ◌∷◌, length, get_or, IfSome}
+use Rattle.std.proofs.Common.{map, ◌⊎◌, ⊎_elim}
+use Rattle.std.specs.Prelude.{All, slice_set, is_some, ◌&&◌}
 use Rattle.prem_cycle.proofs.Prelude.{CoreMove, Issues, is_paid, phase_in, want_of, Arrivals, arrivals_at, bus_at, with_memory, with_clash, move_at, core_at, joined, ends_before, at_point}
 use Rattle.prem_cycle.proofs.Prelude.{close_interval, settle, with_now, next_cycle, ticked, cycle_of, is_over, step_of, with_word, with_input, is_execution, memory_of, cycles_of, closing_in}
 use Rattle.prem_cycle.proofs.Prelude.{closing_at, is_last, WindowCloses, LiesInside, CarriesInside, WindowsHold, IsQuiet, HaveCosts, RunsKeepWindows, CyclesKeepWindows, InputsKeepWindows}
 use Rattle.prem_cycle.proofs.Prelude.{QuietOutsideExecution, Setup, Task, MachineState, no_record, first_task, first_tasks, start_of, Interval, Mode, Point, Switching, Running, Idle}
 use Rattle.prem_cycle.proofs.Prelude.{GateState, GatesState, Turned, gates_of, Carried, Window, Request, DeviceRecord, TaskRecord, Change, Stay, Memory, Execute, End, Job, Phase, Compatible}
-use Rattle.prem_cycle.proofs.Prelude.{Execution, ReplacementRule, Device, ◌≡◌, ℕ, zero, suc, ◌+◌, ◌<◌, ◌≤◌, refl, ap, ◌∙◌, sym, subst, arith, cond, ltb, Some, None, Option, true, false}
-use Rattle.prem_cycle.proofs.Prelude.{Bool, List, [], ◌∷◌, length, get_or, IfSome, map, ◌⊎◌, ⊎_elim, and_parts, cases_eq, cases_lt, cond_both, leb-true, ltb-false, get_or-set_same}
-use Rattle.prem_cycle.proofs.Prelude.{get_or-set_other, set_past, All, slice_set, is_some, ◌&&◌}
+use Rattle.prem_cycle.proofs.Prelude.{Execution, ReplacementRule, Device, and_parts, cases_eq, cases_lt, cond_both, leb-true, ltb-false, get_or-set_same, get_or-set_other, set_past}
 use Rattle.prem_cycle.proofs.CoreCases.{move_cases}
 use Rattle.prem_cycle.proofs.RunsLemmas.WindowLemmas.Bus.{arrivals_inside, turn_inside, turn_quiet}
 use Rattle.prem_cycle.proofs.RunsLemmas.WindowLemmas.Moves.{MayIssue, Moves, moves, TurnCloses, turn_closes}

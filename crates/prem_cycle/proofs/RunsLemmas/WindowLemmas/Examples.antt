@@ -1,6 +1,7 @@
 -- When the window closes in a worked run, whose marked interval begins in cycle 111 and ends with cycle 601, and whose
 -- transfer takes 40 cycles. A second job begins in cycle 1000.
-use Rattle.prem_cycle.proofs.Prelude.{phase_in, cycles_of, closing_at, MachineState, ◌≡◌, ℕ, [], ◌∷◌, refl, Some, option_map}
+use Rattle.std.proofs.Common.{◌≡◌, ℕ, [], ◌∷◌, refl, Some}
+use Rattle.prem_cycle.proofs.Prelude.{phase_in, cycles_of, closing_at, MachineState, option_map}
 use Rattle.prem_cycle.proofs.Images.{marked, alone, device, put, run}
 
 abbrev at : ℕ → MachineState

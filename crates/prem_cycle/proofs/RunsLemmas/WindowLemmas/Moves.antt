@@ -1,11 +1,11 @@
 -- The core's move keeps that its window closes.
+use Rattle.std.proofs.Common.{◌≡◌, ℕ, zero, suc, ◌+◌, ◌/◌, ◌<◌, ◌≤◌, refl, ap, ◌∙◌, sym, subst, arith, cond, Some, None, Option, false, Bool, List, [], length, get_or, ⊎_elim, inl, inr, ◌⊎◌}
 use Rattle.prem_cycle.proofs.Prelude.{CoreMove, Passes, Issues, phase_in, new_interval, stated_after, window_after, core_issue, CoreTurn, core_turn, Attempt, Traps, Executes, attempt_by}
 use Rattle.prem_cycle.proofs.Prelude.{attempt_fetched, attempt_of, view_behind, effect_in, behind_touches, task_moved, task_after, issued_by, issued_with, is_execution, closing_in}
 use Rattle.prem_cycle.proofs.Prelude.{closing_at, is_last, WindowCloses, Setup, record_of, no_record, first_task, Task, Work, CoreState, Counts, task_in, Interval, Mode, Point, Switching}
 use Rattle.prem_cycle.proofs.Prelude.{Running, Idle, Window, TaskRecord, act_lawful, act, fetch, phase_after, OnDone, EffectLawful, IsLawful, next_input, Access, Cause, Change, Stay, Memory}
 use Rattle.prem_cycle.proofs.Prelude.{Execute, End, Job, Effect, Outcome, Trap, Done, Phase, Compatible, Execution, Stored, Instr, Touched, touch_of, view_of, ReplacementRule, Target}
-use Rattle.prem_cycle.proofs.Prelude.{TaskJobs, ◌≡◌, ℕ, zero, suc, ◌+◌, ◌/◌, ◌<◌, ◌≤◌, refl, ap, ◌∙◌, sym, subst, arith, cond, Some, None, Option, false, Bool, List, [], length, get_or}
-use Rattle.prem_cycle.proofs.Prelude.{⊎_elim, inl, inr, ◌⊎◌, cases_lt, cases_eq, get_or-set_same, get_or-set_other, get_or_past, set_past, slice_set, slice_index, Result, Ok, Err}
+use Rattle.prem_cycle.proofs.Prelude.{TaskJobs, cases_lt, cases_eq, get_or-set_same, get_or-set_other, get_or_past, set_past, slice_set, slice_index, Result, Ok, Err}
 use Rattle.prem_cycle.proofs.CoreCases.{Continues, MoveCase, pays_on_bus, is_denied, pays_cost, waits, goes_on, switches, begins, chooses, chooses_now, begins_idle, has_finished, idles}
 use Rattle.prem_cycle.proofs.RunsLemmas.PositionLemmas.Times.{changed_phase}
 use Rattle.prem_isa.specs.declared.effect.Phase.TheVariants.{Memory as MemoryPhase}

@@ -1,8 +1,9 @@
 -- The bus changes nothing before a `pm.in` issues.
+use Rattle.std.proofs.Common.{◌≡◌, ℕ, zero, suc, refl, ap, ◌∙◌, sym, cond, Some, None, Option, true, false, Bool, List, length, ⊎_elim}
+use Rattle.std.specs.Prelude.{◌&&◌, nat_le}
 use Rattle.prem_cycle.proofs.Prelude.{want_of, core_pay, CoreMove, Passes, Issues, phase_in, move_chosen, move_in, move_of, arrivals_at, bus_at, with_memory, move_at, is_over, Attempt}
 use Rattle.prem_cycle.proofs.Prelude.{Traps, Executes, attempt_of, behind_touches, is_execution, CycleStep, step_by, step_in, step_with, wants_word, Setup, Work, CoreState, task_in}
-use Rattle.prem_cycle.proofs.Prelude.{Interval, Mode, Point, Switching, Running, Idle, Turned, wants, Phase, Compatible, ReplacementRule, choice, Choice, Run, Finished, TaskJobs, ◌≡◌, ℕ}
-use Rattle.prem_cycle.proofs.Prelude.{zero, suc, refl, ap, ◌∙◌, sym, cond, Some, None, Option, true, false, Bool, List, length, ⊎_elim, cases_Bool, ◌&&◌, nat_le}
+use Rattle.prem_cycle.proofs.Prelude.{Interval, Mode, Point, Switching, Running, Idle, Turned, wants, Phase, Compatible, ReplacementRule, choice, Choice, Run, Finished, TaskJobs, cases_Bool}
 use Rattle.prem_cycle.proofs.RunsLemmas.WindowLemmas.Cycles.{quiet_outside}
 use Rattle.prem_cycle.proofs.RunsLemmas.WindowLemmas.Moves.{attempt_lawful}
 use Rattle.prem_cycle.specs.Runs.Window.Wants.{lacks_word, wants_in, WantsAreSeen}

@@ -1,5 +1,6 @@
 -- What dull cycles come to.
-use Rattle.prem_cycle.specs.Prelude.{Request, ReplacementRule, ◌≡◌, ℕ, List}
+use Rattle.std.specs.Prelude.{◌≡◌, ℕ, List}
+use Rattle.prem_cycle.specs.Prelude.{Request, ReplacementRule}
 use Rattle.prem_cycle.specs.Run.{cycles_of}
 use Rattle.prem_cycle.specs.Runs.Dull.Dull.{AreDull}
 use Rattle.prem_cycle.specs.Runs.Dull.Rest.{IsSteady, Rests, passed}

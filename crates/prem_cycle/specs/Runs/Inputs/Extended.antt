@@ -1,5 +1,6 @@
 -- Words that are put behind a task's input words while its run goes on.
-use Rattle.prem_cycle.specs.Prelude.{Request, ReplacementRule, ◌≡◌, ℕ, ◌+◌, ◌<◌, true, false, List, [], ◌∷◌, ◌++◌, length, slice_index_or, slice_set}
+use Rattle.std.specs.Prelude.{◌≡◌, ℕ, ◌+◌, ◌<◌, true, false, List, [], ◌∷◌, ◌++◌, length, slice_index_or, slice_set}
+use Rattle.prem_cycle.specs.Prelude.{Request, ReplacementRule}
 use Rattle.prem_cycle.specs.FactsOf.{has_room_for_word, with_input}
 use Rattle.prem_cycle.specs.Inputs.{FitsRun}
 use Rattle.prem_cycle.specs.Run.{cycles_of, run_of}

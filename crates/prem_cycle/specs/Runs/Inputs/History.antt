@@ -1,5 +1,6 @@
 -- Runs to which words are appended time and again.
-use Rattle.prem_cycle.specs.Prelude.{Request, ReplacementRule, ◌≡◌, ℕ, ◌+◌, ◌<◌, ◌||◌, Bool, false, List, length}
+use Rattle.std.specs.Prelude.{◌≡◌, ℕ, ◌+◌, ◌<◌, ◌||◌, Bool, false, List, length}
+use Rattle.prem_cycle.specs.Prelude.{Request, ReplacementRule}
 use Rattle.prem_cycle.specs.FactsOf.{with_input}
 use Rattle.prem_cycle.specs.Run.{cycles_of, memory_of, run_of}
 use Rattle.prem_cycle.specs.Runs.Inputs.Extended.{with_word_for}

@@ -1,6 +1,7 @@
 -- One task without devices: where its run stands, by when it is finished, and with what.
+use Rattle.std.specs.Prelude.{◌≡◌, ℕ, ◌+◌, ◌-◌, ◌*◌, ◌%◌, ◌^◌, ◌<◌, ◌≤◌, true, false, List, [], ◌∷◌, Option, Some, None, All, length, sum_by, slice_index}
 use Rattle.prem_cycle.specs.Prelude.{TaskRecord, cost_of, greatest_cost, TaskRun, plain_start, plain_run, Did, plain_did, plain_trace, Access, Compatible, view_of, ReplacementRule, IsRule}
-use Rattle.prem_cycle.specs.Prelude.{IsPlant, Plant, task_at, ◌≡◌, ℕ, ◌+◌, ◌-◌, ◌*◌, ◌%◌, ◌^◌, ◌<◌, ◌≤◌, true, false, List, [], ◌∷◌, Option, Some, None, All, length, sum_by, slice_index}
+use Rattle.prem_cycle.specs.Prelude.{IsPlant, Plant, task_at}
 use Rattle.prem_cycle.specs.Alone.{run_in}
 use Rattle.prem_cycle.specs.Cycle.{is_finished, is_full, log_size}
 use Rattle.prem_cycle.specs.Run.{CycleStep, coming_step, did_in, memory_of, run_of}

@@ -1,6 +1,6 @@
 -- The image of one task without devices.
-use Rattle.prem_cycle.specs.Prelude.{RunInput, IsImage, Image, TaskRecord, greatest_cost, TaskRun, plain_start, plain_trace, items_of, ReplacementRule, IsRule, ◌≡◌, ℕ, ◌+◌, ◌*◌, ◌^◌, ◌<◌}
-use Rattle.prem_cycle.specs.Prelude.{◌≤◌, List, [], ◌∷◌, All}
+use Rattle.std.specs.Prelude.{◌≡◌, ℕ, ◌+◌, ◌*◌, ◌^◌, ◌<◌, ◌≤◌, List, [], ◌∷◌, All}
+use Rattle.prem_cycle.specs.Prelude.{RunInput, IsImage, Image, TaskRecord, greatest_cost, TaskRun, plain_start, plain_trace, items_of, ReplacementRule, IsRule}
 use Rattle.prem_cycle.specs.Inputs.{words_of, image_run}
 use Rattle.prem_cycle.specs.Runs.Position.Finish.{run_alone, finish_of, EndsIn, FinishedAs}
 

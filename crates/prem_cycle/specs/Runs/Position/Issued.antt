@@ -1,6 +1,6 @@
 -- The tasks of a run, each with its run on its own, and what each has issued.
-use Rattle.prem_cycle.specs.Prelude.{Request, IsPlaced, TaskRun, RunFits, plain_run, plain_did, view_of, IsClean, ReplacementRule, IsRule, IsPlant, ◌≡◌, ℕ, ◌/◌, ◌<◌, ◌≤◌, ◌==◌, Bool, true}
-use Rattle.prem_cycle.specs.Prelude.{List, [], length, Some, None, All, count_by, slice_index, slice_index_or}
+use Rattle.std.specs.Prelude.{◌≡◌, ℕ, ◌/◌, ◌<◌, ◌≤◌, ◌==◌, Bool, true, List, [], length, Some, None, All, count_by, slice_index, slice_index_or}
+use Rattle.prem_cycle.specs.Prelude.{Request, IsPlaced, TaskRun, RunFits, plain_run, plain_did, view_of, IsClean, ReplacementRule, IsRule, IsPlant}
 use Rattle.prem_cycle.specs.Alone.{plain_of}
 use Rattle.prem_cycle.specs.Inputs.{IsRequest}
 use Rattle.prem_cycle.specs.Run.{CycleStep, coming_step, did_in, memory_of, run_of, steps_of}

@@ -1,5 +1,6 @@
 -- How long the transfers of a run take.
-use Rattle.prem_cycle.specs.Prelude.{Carried, Transfer, Request, DeviceRecord, with_last, ReplacementRule, ◌≡◌, ℕ, ◌+◌, ◌≤◌, List, None, Option, IfSome, slice_get}
+use Rattle.std.specs.Prelude.{◌≡◌, ℕ, ◌+◌, ◌≤◌, List, None, Option, IfSome, slice_get}
+use Rattle.prem_cycle.specs.Prelude.{Carried, Transfer, Request, DeviceRecord, with_last, ReplacementRule}
 use Rattle.prem_cycle.specs.Run.{run_of}
 use Rattle.prem_cycle.specs.Runs.Window.Windows.{HaveCosts}
 use Rattle.prem_cycle.specs.State.{Setup, MachineState}

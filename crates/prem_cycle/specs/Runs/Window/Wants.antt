@@ -1,5 +1,6 @@
 -- An input word that is wanted and isn't there, as the state before the cycle tells it.
-use Rattle.prem_cycle.specs.Prelude.{Request, ReplacementRule, ◌≡◌, ℕ, ◌&&◌, nat_le, Bool, false, List, length, Option, Some, None, if◌then◌else◌}
+use Rattle.std.specs.Prelude.{◌≡◌, ℕ, ◌&&◌, nat_le, Bool, false, List, length, Option, Some, None, if◌then◌else◌}
+use Rattle.prem_cycle.specs.Prelude.{Request, ReplacementRule}
 use Rattle.prem_cycle.specs.Core.{CoreMove, Passes, Issues, move_of}
 use Rattle.prem_cycle.specs.Cycle.{is_over}
 use Rattle.prem_cycle.specs.Issue.{Attempt, Traps, Executes, attempt_of}

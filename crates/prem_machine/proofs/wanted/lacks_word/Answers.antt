@@ -1,4 +1,5 @@
-use Rattle.prem_machine.proofs.Prelude.{length, get_or, refl, ap, sym, ◌∙◌, nat_le, ◌&&◌}
+use Rattle.std.specs.Prelude.{nat_le, ◌&&◌}
+use Rattle.prem_machine.proofs.Prelude.{length, get_or, refl, ap, sym, ◌∙◌}
 use Rattle.prem_machine.proofs.Wanting.{lacks_told}
 use Rattle.prem_machine.proofs.wanted.lacks_word.Goals as goal
 

@@ -1,5 +1,6 @@
+use Rattle.std.proofs.Common.{◌≡◌, ◌+◌, ◌-◌, ℕ, Option, None, false, ap, sym, ◌∙◌, subst}
 use Rattle.prem_machine.proofs.Prelude.{CoreTurn, core_issued, owed_by, Debt, Facts, Stay, items_of, CoreParts, counts_in, CountsWithin, log_in, core_owing, core_with, GoesOn, turn_of_issue}
-use Rattle.prem_machine.proofs.Prelude.{with_counts, work_in, Plain, ◌≡◌, ◌+◌, ◌-◌, ℕ, Option, None, false, ap, sym, ◌∙◌, subst, IfNone}
+use Rattle.prem_machine.proofs.Prelude.{with_counts, work_in, Plain, IfNone}
 use Rattle.prem_machine.proofs.work.issue_first.Goals as goal
 
 -- ---- where it goes on

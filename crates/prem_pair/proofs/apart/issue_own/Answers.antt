@@ -1,4 +1,5 @@
-use Rattle.prem_pair.proofs.Prelude.{owed_by, Debt, no_debt, Stay, rooms_there, has_room, CoreParts, core_owing, core_with, GoesOn, ◌≡◌, ℕ, ◌-◌, [], false, ap, sym, ◌∙◌, subst, refl}
+use Rattle.std.proofs.Common.{◌≡◌, ℕ, ◌-◌, [], false, ap, sym, ◌∙◌, subst, refl}
+use Rattle.prem_pair.proofs.Prelude.{owed_by, Debt, no_debt, Stay, rooms_there, has_room, CoreParts, core_owing, core_with, GoesOn}
 use Rattle.prem_pair.proofs.Owning.{hit_core, issues_own, kept_goes}
 use Rattle.prem_pair.proofs.apart.issue_own.Goals as goal
 

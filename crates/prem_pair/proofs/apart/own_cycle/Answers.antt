@@ -1,4 +1,5 @@
-use Rattle.prem_pair.proofs.Prelude.{counts_more, mode_after, has_room, CoreParts, counts_in, ◌*◌, ◌+◌, ◌≤◌, ap, arith}
+use Rattle.std.proofs.Common.{◌*◌, ◌+◌, ◌≤◌, ap, arith}
+use Rattle.prem_pair.proofs.Prelude.{counts_more, mode_after, has_room, CoreParts, counts_in}
 use Rattle.prem_pair.proofs.Owning.{pays_own}
 use Rattle.prem_pair.proofs.apart.own_cycle.Goals as goal
 

@@ -1,4 +1,5 @@
-use Rattle.prem_pair.proofs.Prelude.{log_size, near_none, IsNear, put_out, Parts, Arrives, IsPlant, ◌≡◌, ◌-◌, Option, Some, ap, sym, ◌∙◌, subst, arith, IfNone}
+use Rattle.std.proofs.Common.{◌≡◌, ◌-◌, Option, Some, ap, sym, ◌∙◌, subst, arith}
+use Rattle.prem_pair.proofs.Prelude.{log_size, near_none, IsNear, put_out, Parts, Arrives, IsPlant, IfNone}
 use Rattle.prem_pair.proofs.Owning.{own_more, own_next, own_none, rooms_left}
 use Rattle.std.specs.Prelude.{Bool}
 use Rattle.prem_pair.proofs.apart.run_own.Goals as goal

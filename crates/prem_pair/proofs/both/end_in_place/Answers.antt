@@ -1,4 +1,5 @@
-use Rattle.prem_pair.proofs.Prelude.{with_now, MachineState, Task, Work, items_of, mode_later, same_state, same_tasks, settle_parts, state_of, ◌+◌, ap, sym, ◌∙◌, refl, List}
+use Rattle.std.proofs.Common.{◌+◌, ap, sym, ◌∙◌, refl, List}
+use Rattle.prem_pair.proofs.Prelude.{with_now, MachineState, Task, Work, items_of, mode_later, same_state, same_tasks, settle_parts, state_of}
 use Rattle.prem_pair.proofs.both.end_in_place.Goals as goal
 
 pub settle-requires-clause-ready : goal.settle-requires-clause-ready

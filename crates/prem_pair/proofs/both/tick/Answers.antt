@@ -1,5 +1,6 @@
+use Rattle.std.proofs.Common.{◌≡◌, ℕ, ◌+◌, ◌*◌, length, ap, sym, ◌∙◌, refl, subst, arith, List}
 use Rattle.prem_pair.proofs.Prelude.{with_now, Counts, Log, Task, Work, items_of, counts_settled, few_kept, mode_later, same_state, same_tasks, transfers-log_settled, settle_parts}
-use Rattle.prem_pair.proofs.Prelude.{CountsWithin, dropped_in, log_in, core_with, over_in, state_of, ◌≡◌, ℕ, ◌+◌, ◌*◌, length, ap, sym, ◌∙◌, refl, subst, arith, List}
+use Rattle.prem_pair.proofs.Prelude.{CountsWithin, dropped_in, log_in, core_with, over_in, state_of}
 use Rattle.prem_pair.proofs.both.tick.Goals as goal
 
 pub settle-requires-clause-ready : goal.settle-requires-clause-ready

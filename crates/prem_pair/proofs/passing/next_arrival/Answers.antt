@@ -1,4 +1,5 @@
-use Rattle.prem_pair.proofs.Prelude.{next_some, IsNextArrival, ◌≡◌, ℕ, get_or, sym, subst, min}
+use Rattle.std.proofs.Common.{◌≡◌, ℕ, get_or, sym, subst}
+use Rattle.prem_pair.proofs.Prelude.{next_some, IsNextArrival, min}
 use Rattle.prem_machine.proofs.Arriving.{no_request}
 use Rattle.prem_machine.proofs.Resting.{next_none}
 use Rattle.prem_pair.proofs.passing.next_arrival.Goals as goal

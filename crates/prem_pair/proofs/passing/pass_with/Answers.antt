@@ -1,4 +1,5 @@
-use Rattle.prem_pair.proofs.Prelude.{Parts, Goes, ◌*◌, sym, subst, refl}
+use Rattle.std.proofs.Common.{◌*◌, sym, subst, refl}
+use Rattle.prem_pair.proofs.Prelude.{Parts, Goes}
 use Rattle.prem_pair.proofs.Passes.{goes_at}
 use Rattle.prem_pair.proofs.passing.pass_with.Goals.{then-holds, else-holds+else-not-wants_bus}
 use Rattle.prem_pair.proofs.passing.pass_with.Goals as goal

@@ -1,4 +1,5 @@
-use Rattle.prem_pair.proofs.Prelude.{Log, DeviceFacts, items_of, rooms_left, counts_in, CountsWithin, ◌≡◌, ◌+◌, ◌*◌, ◌≤◌, length, ap, sym, subst, arith, List, All}
+use Rattle.std.proofs.Common.{◌≡◌, ◌+◌, ◌*◌, ◌≤◌, length, ap, sym, subst, arith, List, All}
+use Rattle.prem_pair.proofs.Prelude.{Log, DeviceFacts, items_of, rooms_left, counts_in, CountsWithin}
 use Rattle.prem_machine.proofs.Told.{told_length}
 use Rattle.prem_pair.proofs.side.act.Goals as goal
 

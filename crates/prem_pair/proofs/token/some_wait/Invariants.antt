@@ -1,4 +1,5 @@
-use Rattle.prem_pair.proofs.Prelude.{some_wait, ◌≡◌, drop}
+use Rattle.std.proofs.Common.{◌≡◌, drop}
+use Rattle.prem_pair.proofs.Prelude.{some_wait}
 use Rattle.prem_pair.proofs.token.some_wait.Given as goal
 
 -- those from here on wait as all do

@@ -1,7 +1,8 @@
 -- A joined image whose tasks' weaves are parted into scopes goes by what these are charged.
+use Rattle.std.proofs.Common.{◌≡◌, ℕ, zero, suc, ◌+◌, ◌*◌, ◌<◌, ◌≤◌, sym, subst, arith, Bool, List, [], length}
 use Rattle.prem_sets_sound.proofs.Prelude.{run_in, Setup, TaskRun, RunFits, plain_start, plain_run, plain_trace, script_of, TaskCharges, JoinedImagesAreSoundByCharges, JobLimits, IsJoined}
 use Rattle.prem_sets_sound.proofs.Prelude.{AreStated, Weave, ends, goes, calls, dids_of, calls_of, scripts_finish_by_jobs, scripts_are_good, strands_are_charged, dids_along, scoping_of}
-use Rattle.prem_sets_sound.proofs.Prelude.{Conforms, call_at, Script, Promise, AreScripts, AreInputs, ◌≡◌, ℕ, zero, suc, ◌+◌, ◌*◌, ◌<◌, ◌≤◌, sym, subst, arith, Bool, List, [], length}
+use Rattle.prem_sets_sound.proofs.Prelude.{Conforms, call_at, Script, Promise, AreScripts, AreInputs}
 use Rattle.prem_sets_sound.proofs.StubLawsLemmas.JoinedRunsLemmas.Joined.{chosen, Scripted, joined_script, joined_calls, run_fits, scripts_join, runs}
 use Rattle.prem_sets_sound.proofs.WeaveLemmas.Woven.{woven_runs_conform}
 use Rattle.prem_sound.proofs.ScopesLemmas.StrandLaws.{charges_look_at_calls}

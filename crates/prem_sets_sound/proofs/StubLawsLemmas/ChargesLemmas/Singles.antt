@@ -1,14 +1,13 @@
 -- A weave whose instructions are scopes by themselves.
+use Rattle.std.proofs.Common.{slice_index_or, ◌≡◌, ℕ, suc, ◌+◌, ◌*◌, ◌<◌, refl, ap, ◌∙◌, sym, subst, arith, true, [], ◌∷◌, ◌++◌, length, ◌%◌, eqb, leb}
 use Rattle.prem_sets_sound.proofs.Prelude.{is_predictable, due_of, Did, Change, Stay, Memory, Execute, End, Job, Plant, script_of, PacedTasksAreCharged, RoomIsCounted, PacedFrom, Section}
 use Rattle.prem_sets_sound.proofs.Prelude.{segment_of, IsSection, Weave, ends, goes, calls, dids_of, calls_of, IsWeave, within_job, within_stretch, Strand, runs, dids_along, GoesTo}
-use Rattle.prem_sets_sound.proofs.Prelude.{IsStrand, calls_begun, scope_due, ChargedFrom, GoesOrDone, change_due, no_call, call_at, Script, ◌≡◌, ℕ, suc, ◌+◌, ◌*◌, ◌<◌, refl, ap, ◌∙◌, sym}
-use Rattle.prem_sets_sound.proofs.Prelude.{subst, arith, true, [], ◌∷◌, ◌++◌, length, ◌%◌, eqb, leb, All-nil, All-cons, All-append, length-filter, All}
+use Rattle.prem_sets_sound.proofs.Prelude.{IsStrand, calls_begun, scope_due, ChargedFrom, GoesOrDone, change_due, no_call, call_at, Script, All-nil, All-cons, All-append, length-filter, All}
 use Rattle.prem_sets_sound.proofs.WeaveLemmas.Woven.{change_free}
 use Rattle.prem_sound.proofs.ScopesLemmas.Alone.{singles_are_due}
 use Rattle.prem_sound.specs.Scopes.Scopes.{charge_of, single}
 use Rattle.prem_sound.specs.Scopes.Strands.{ends as over, calls as marks}
 use Rattle.prem_sound.specs.Script.Script.{Call}
-use Rattle.std.proofs.Common.{slice_index_or}
 
 module _ (plant : Plant) where
   abbrev pub singles : Weave → Strand

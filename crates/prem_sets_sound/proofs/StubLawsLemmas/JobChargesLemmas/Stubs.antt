@@ -1,9 +1,9 @@
 -- A stub that stands is charged the weight of its stated length, and leaves words where words are.
+use Rattle.std.proofs.Common.{◌≡◌, ℕ, zero, suc, ◌+◌, ◌*◌, ◌%◌, ◌^◌, ◌<◌, ◌≤◌, refl, ap, subst, arith, eqb, List, [], ◌∷◌, ◌++◌}
 use Rattle.prem_sets_sound.proofs.Prelude.{every, flat_ok, all_fit, code_near, code_stands, Stand, CodeStands, Pieces, code_of, Guard, Setting, Ending, Falls, Returns, Stuck, run, AllCode}
 use Rattle.prem_sets_sound.proofs.Prelude.{total, one_holds, stubs_return, PartStands, Codes, code_calls, with_guard, return_step, StubSteps, stub_code, cost_of, TaskRun, TaskState}
 use Rattle.prem_sets_sound.proofs.Prelude.{TaskFits, Did, Compatible, Instr, Jalr, PmMem, line_cost, Plant, IsReady, ReturnsCharged, call_weight, StubsAreCharged, StubAt, StubStands}
-use Rattle.prem_sets_sound.proofs.Prelude.{section_of, Section, section_dids, ends, goes, calls, due_along, charge, Mark, ◌≡◌, ℕ, zero, suc, ◌+◌, ◌*◌, ◌%◌, ◌^◌, ◌<◌, ◌≤◌, refl, ap, subst}
-use Rattle.prem_sets_sound.proofs.Prelude.{arith, eqb, List, [], ◌∷◌, ◌++◌, pos}
+use Rattle.prem_sets_sound.proofs.Prelude.{section_of, Section, section_dids, ends, goes, calls, due_along, charge, Mark, pos}
 use Rattle.prem_asm.specs.Steps.{Holds}
 use Rattle.prem_sets_sound.proofs.StubLawsLemmas.JobChargesLemmas.Steps.{WellAt, Any, fits_rules}
 use Rattle.prem_sets_sound.proofs.WeaveLemmas.Charges.{weaves_are_charged}

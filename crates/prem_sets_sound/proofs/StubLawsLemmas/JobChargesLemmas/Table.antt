@@ -1,18 +1,18 @@
 -- Calls of the functions and stubs of a task are charged at most what the bounds count.
+use Rattle.std.proofs.Common.{◌≡◌, ℕ, zero, suc, ◌+◌, ◌%◌, ◌^◌, ◌<◌, ◌≤◌, ◌⊎◌, inl, inr, refl, ap, ◌∙◌, sym, subst, arith, cond, eqb, ltb, leb, true, false, Bool, List, [], ◌∷◌, length}
+use Rattle.std.proofs.Common.{None, Some, Option, slice_get}
+use Rattle.std.specs.Prelude.{◌-◌, ◌||◌}
 use Rattle.prem_sets_sound.proofs.Prelude.{pieces_good, Pieces, no_pieces, code_of, weighted, Setting, Calls, Ending, Falls, Returns, Stuck, run, AllCode, total as sum, Codes, one_of}
 use Rattle.prem_sets_sound.proofs.Prelude.{with_part, code_calls, no_calls, with_guard, Setup, TaskRun, TaskState, Did, Instr, CodeTable, part_weight, weight_at, marked_weight}
 use Rattle.prem_sets_sound.proofs.Prelude.{marked_weights, job_weight, job_weights, job_bound_of, Placed, Plan, marked_before, Plant, IsReady, IsCharged, ReturnsCharged, PartCharged}
 use Rattle.prem_sets_sound.proofs.Prelude.{EachCall, call_weight, PlannedStands, stands_before, TableStands, weight_in, PartsAreCharged, JobsAreBounded, PlacedJobsAreBounded, CalmStands}
-use Rattle.prem_sets_sound.proofs.Prelude.{job_charge, Confinement, with_confined, confined_calls, IsOf, pieces_or, codes_in, IsCalm, CalmAt, charge, ◌≡◌, ℕ, zero, suc, ◌+◌, ◌%◌, ◌^◌, ◌<◌}
-use Rattle.prem_sets_sound.proofs.Prelude.{◌≤◌, ◌⊎◌, inl, inr, refl, ap, ◌∙◌, sym, subst, arith, cond, eqb, ltb, leb, true, false, Bool, List, [], ◌∷◌, length, None, Some, Option, slice_get}
-use Rattle.prem_sets_sound.proofs.Prelude.{eqb-true, ltb-true, leb-true, ◌||◌}
+use Rattle.prem_sets_sound.proofs.Prelude.{job_charge, Confinement, with_confined, confined_calls, IsOf, pieces_or, codes_in, IsCalm, CalmAt, charge, eqb-true, ltb-true, leb-true}
 use Rattle.prem_sets_sound.proofs.StubLawsLemmas.JobChargesLemmas.Called.{each_map, each_any}
 use Rattle.prem_sets_sound.proofs.StubLawsLemmas.JobChargesLemmas.Steps.{WellAt}
 use Rattle.prem_sets_sound.proofs.StubLawsLemmas.JobChargesLemmas.Stubs.{well_part, stubs_are_charged}
 use Rattle.prem_sets_sound.proofs.StubLawsLemmas.JobChargesLemmas.Walk.{calm_runs_are_charged}
 use Rattle.prem_sets_sound.proofs.StubLawsLemmas.StubFitsLemmas.Costs.{at, weight_below}
 use Rattle.prem_sets_sound.specs.StubLaws.JobCharges.Dues.{CallsBefore}
-use Rattle.std.specs.Prelude.{◌-◌}
 
 -- ---- code that stands and changes no phase
 

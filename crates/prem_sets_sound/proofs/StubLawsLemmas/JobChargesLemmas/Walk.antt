@@ -1,10 +1,10 @@
 -- Code that changes no phase is charged at most the greatest weight over its paths.
+use Rattle.std.proofs.Common.{◌≡◌, ℕ, zero, suc, ◌+◌, ◌*◌, ◌≤◌, subst, arith, eqb, List, [], ◌∷◌, ◌++◌, length, max}
 use Rattle.prem_sets_sound.proofs.Prelude.{total-append, code-length, skip_code-length, skip_one, choose_both, Pieces, no_pieces, straight, address_of, either, repeat, call_to, skip_words}
 use Rattle.prem_sets_sound.proofs.Prelude.{skip_code, jump, jump_to, branch_of, address_code, skip_at, other_at, either_end, test_at, back_at, repeat_end, code_of, weight, jump_weight}
 use Rattle.prem_sets_sound.proofs.Prelude.{address_weight, weighted, Setting, Calls, Ending, Falls, Returns, Stuck, with_trace, then_run, called, run_one, run_code, control, test_holds}
 use Rattle.prem_sets_sound.proofs.Prelude.{taken_steps, other_steps, skip_steps, linked, Loop, left_loop, run_turns, run, AllCode, total, Test, TaskState, Did, Instr, job_weight, Plant}
-use Rattle.prem_sets_sound.proofs.Prelude.{IsReady, IsCharged, ReturnsCharged, PartCharged, EachCall, CalmRunsAreCharged, CalmAt, charge, ◌≡◌, ℕ, zero, suc, ◌+◌, ◌*◌, ◌≤◌, subst, arith, eqb}
-use Rattle.prem_sets_sound.proofs.Prelude.{List, [], ◌∷◌, ◌++◌, length, max, cond_both}
+use Rattle.prem_sets_sound.proofs.Prelude.{IsReady, IsCharged, ReturnsCharged, PartCharged, EachCall, CalmRunsAreCharged, CalmAt, charge, cond_both}
 use Rattle.prem_sets_sound.proofs.StubLawsLemmas.JobChargesLemmas.Steps.{one_charged}
 use Rattle.prem_sets_sound.proofs.StubLawsLemmas.JobWeaveLemmas.Jobs.{control_charged, linked_fits}
 

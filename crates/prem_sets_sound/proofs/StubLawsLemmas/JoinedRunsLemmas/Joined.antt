@@ -1,8 +1,8 @@
 -- A joined image is sound.
+use Rattle.std.proofs.Common.{◌≡◌, ℕ, zero, suc, ◌+◌, ◌*◌, ◌<◌, ◌≤◌, ◌⊎◌, refl, sym, subst, arith, Bool, List, [], ◌∷◌, ◌++◌, length, inl, inr, ⊎_elim}
 use Rattle.prem_sets_sound.proofs.Prelude.{IsTrace, StaysOwn, Setup, record_of, no_record, IsTask, TaskRun, RunFits, plain_run, JobLimits, TaskJoins, IsJoined, JoinedImagesAreSound, dids_of}
 use Rattle.prem_sets_sound.proofs.Prelude.{calls_of, scripts_finish, scripts_are_good, Script, IsScript, Promise, IsKept, sum_below, last_release, limit_of, interval_count, AreScripts}
-use Rattle.prem_sets_sound.proofs.Prelude.{IsRun, AreInputs, ◌≡◌, ℕ, zero, suc, ◌+◌, ◌*◌, ◌<◌, ◌≤◌, ◌⊎◌, refl, sym, subst, arith, Bool, List, [], ◌∷◌, ◌++◌, length, inl, inr, ⊎_elim}
-use Rattle.prem_sets_sound.proofs.Prelude.{suc-mul, cases_eq, All, replicate, slice_index}
+use Rattle.prem_sets_sound.proofs.Prelude.{IsRun, AreInputs, suc-mul, cases_eq, All, replicate, slice_index}
 use Rattle.prem_cycle.specs.Cycle.{log_size}
 use Rattle.prem_gate.specs.declared.request.Request.{Request}
 use Rattle.prem_sets_sound.proofs.WeaveLemmas.Woven.{woven_runs_conform, woven_runs_give_promises}

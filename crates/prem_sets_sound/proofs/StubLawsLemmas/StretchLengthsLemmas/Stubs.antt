@@ -1,8 +1,9 @@
 -- A stub that stands is cut between `pm.mem` and its return.
+use Rattle.std.proofs.Common.{◌≡◌, ℕ, ◌+◌, ◌≤◌, refl, ap, ◌∙◌, sym, subst, arith, List, [], ◌∷◌}
 use Rattle.prem_sets_sound.proofs.Prelude.{Guard, Setting, Ending, Falls, Returns, Stuck, run, stubs_return, Codes, code_calls, with_guard, return_step, StubSteps, stub_code, due_of}
 use Rattle.prem_sets_sound.proofs.Prelude.{TaskRun, TaskState, TaskFits, Did, Jalr, PmMem, within_same, chained_within, taking_within, job_weight, Takes, Cuts, taking, cut, chained}
 use Rattle.prem_sets_sound.proofs.Prelude.{sums_of_path, marked_sums_of, IsWithin, Plant, IsReady, ReturnsStrided, StubAt, StubStands, events_of, strides, section_of, Section, IsSection}
-use Rattle.prem_sets_sound.proofs.Prelude.{Mark, ◌≡◌, ℕ, ◌+◌, ◌≤◌, refl, ap, ◌∙◌, sym, subst, arith, List, [], ◌∷◌, pos}
+use Rattle.prem_sets_sound.proofs.Prelude.{Mark, pos}
 use Rattle.prem_asm.specs.Steps.{Holds}
 use Rattle.prem_sets_sound.proofs.StubLawsLemmas.JobChargesLemmas.Steps.{Any}
 use Rattle.prem_sets_sound.proofs.StubLawsLemmas.JobChargesLemmas.Stubs.{stub_fits}

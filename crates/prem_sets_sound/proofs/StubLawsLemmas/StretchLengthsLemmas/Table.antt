@@ -1,17 +1,17 @@
 -- Calls of the functions and stubs of a task have no greater sums than their code.
+use Rattle.std.proofs.Common.{◌≡◌, ℕ, zero, suc, ◌+◌, ◌<◌, ◌≤◌, ◌⊎◌, inl, inr, refl, ap, ◌∙◌, sym, subst, arith, cond, eqb, ltb, leb, true, false, Bool, List, [], ◌∷◌, ◌++◌, length}
+use Rattle.std.proofs.Common.{length-append, Some, slice_get}
+use Rattle.std.specs.Prelude.{◌-◌, ◌||◌}
 use Rattle.prem_sets_sound.proofs.Prelude.{Pieces, no_pieces, code_of, Setting, Calls, Ending, Falls, Returns, Stuck, run, AllCode, Codes, one_of, with_part, code_calls, no_calls}
 use Rattle.prem_sets_sound.proofs.Prelude.{with_guard, Setup, TaskRun, TaskState, Did, Instr, sums_are_exact, CodeTable, job_weight, Plan, Sums, taking, greatest, summed, part_sums, sums_at}
 use Rattle.prem_sets_sound.proofs.Prelude.{sums_behind, job_sums, marked_sums, marked_sums_of, IsWithin, marked_before, Plant, IsReady, EachCall, PlannedStands, stands_before, TableStands}
 use Rattle.prem_sets_sound.proofs.Prelude.{CalmStands, start_sums, Confinement, with_confined, confined_calls, ReturnsLast, IsStrided, ReturnsStrided, PartStrided, sums_in, PartsAreStrided}
-use Rattle.prem_sets_sound.proofs.Prelude.{PlacedJobsAreStrided, IsOf, codes_in, strides, CalmAt, ◌≡◌, ℕ, zero, suc, ◌+◌, ◌<◌, ◌≤◌, ◌⊎◌, inl, inr, refl, ap, ◌∙◌, sym, subst, arith, cond}
-use Rattle.prem_sets_sound.proofs.Prelude.{eqb, ltb, leb, true, false, Bool, List, [], ◌∷◌, ◌++◌, length, length-append, Some, slice_get, eqb-true, ltb-true, lt-ltb, leb-true}
-use Rattle.prem_sets_sound.proofs.Prelude.{get_or_append_left, get_or-append-add, ◌||◌}
+use Rattle.prem_sets_sound.proofs.Prelude.{PlacedJobsAreStrided, IsOf, codes_in, strides, CalmAt, eqb-true, ltb-true, lt-ltb, leb-true, get_or_append_left, get_or-append-add}
 use Rattle.prem_sets_sound.proofs.StubLawsLemmas.JobChargesLemmas.Called.{each_map, each_any}
 use Rattle.prem_sets_sound.proofs.StubLawsLemmas.JobChargesLemmas.Table.{calm_part, codes_are_of, not_below}
 use Rattle.prem_sets_sound.proofs.StubLawsLemmas.StretchLengthsLemmas.Stubs.{stub_strided}
 use Rattle.prem_sets_sound.proofs.StubLawsLemmas.StretchLengthsLemmas.Walk.{calm_runs_are_strided}
 use Rattle.prem_sets_sound.specs.StubLaws.JobCharges.Dues.{CallsBefore}
-use Rattle.std.specs.Prelude.{◌-◌}
 
 returns : (plant : Plant) (most : Sums) (o : Ending) → IsStrided plant most o → ReturnsStrided plant most o
 returns plant most (Falls t trace) h = tt

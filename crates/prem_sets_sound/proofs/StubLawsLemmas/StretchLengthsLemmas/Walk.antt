@@ -1,4 +1,5 @@
 -- A run of code that changes no phase has no greater sums than its pieces.
+use Rattle.std.proofs.Common.{◌≡◌, inl, inr, ℕ, zero, suc, ◌+◌, ◌*◌, ◌≤◌, refl, ap, ◌∙◌, sym, subst, arith, cond, eqb, true, false, List, [], ◌∷◌, ◌++◌, length, None}
 use Rattle.prem_sets_sound.proofs.Prelude.{code-length, skip_code-length, skip_one, choose_both, Pieces, no_pieces, straight, address_of, either, repeat, call_to, skip_words, skip_code}
 use Rattle.prem_sets_sound.proofs.Prelude.{jump, jump_to, branch_of, address_code, skip_at, other_at, either_end, test_at, back_at, repeat_end, code_of, weight, jump_weight, address_weight}
 use Rattle.prem_sets_sound.proofs.Prelude.{EachInstr, EachPiece, Guard, Setting, Calls, Ending, Falls, Returns, Stuck, allowed, ends_job, is_return, arrives, stepped, outcome_at, with_trace}
@@ -6,8 +7,8 @@ use Rattle.prem_sets_sound.proofs.Prelude.{then_run, called, run_one, run_code, 
 use Rattle.prem_sets_sound.proofs.Prelude.{Test, due_of, data_accesses, phase_after, OnDone, cost_of, TaskState, Did, did_of, after_effect, Stay, Effect, Outcome, Trap, Compatible, Instr}
 use Rattle.prem_sets_sound.proofs.Prelude.{chained_assoc, chained_among, taken_none, path_joined, within_same, within_then, chained_within, within_first, within_second, taking_within}
 use Rattle.prem_sets_sound.proofs.Prelude.{line_cost, job_weight, Takes, Sums, taking, among, chained, sums_of_path, turned, summed, IsWithin, Plant, Target, IsReady, EachCall, GoesOn}
-use Rattle.prem_sets_sound.proofs.Prelude.{ReturnsLast, FallsStrided, IsStrided, ReturnsStrided, PartStrided, CalmRunsAreStrided, did_events, change_events, events_of, strides, CalmAt, ◌≡◌}
-use Rattle.prem_sets_sound.proofs.Prelude.{inl, inr, ℕ, zero, suc, ◌+◌, ◌*◌, ◌≤◌, refl, ap, ◌∙◌, sym, subst, arith, cond, eqb, true, false, List, [], ◌∷◌, ◌++◌, length, None, cond_both}
+use Rattle.prem_sets_sound.proofs.Prelude.{ReturnsLast, FallsStrided, IsStrided, ReturnsStrided, PartStrided, CalmRunsAreStrided, did_events, change_events, events_of, strides, CalmAt}
+use Rattle.prem_sets_sound.proofs.Prelude.{cond_both}
 use Rattle.prem_isa.specs.declared.effect.Outcome.TheVariants.{Done}
 use Rattle.prem_sets_sound.proofs.StubLawsLemmas.JobChargesLemmas.Steps.{Cheap, calm_cheap, effect_words}
 use Rattle.prem_sets_sound.proofs.StubLawsLemmas.JobChargesLemmas.Walk.{code_split, moved}

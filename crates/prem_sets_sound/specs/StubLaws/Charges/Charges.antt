@@ -1,6 +1,6 @@
 -- Images whose tasks join, each along a weave that is parted into scopes: their runs go by what the scopes are charged.
-use Rattle.prem_sets_sound.specs.Prelude.{run_in, Setup, TaskRun, count_in, ReplacementRule, OrderRule, Plant, IsPolicy, Call, Script, Promise, AreInputs, Sound, ◌≡◌, ℕ, ◌<◌, nat_le, Bool}
-use Rattle.prem_sets_sound.specs.Prelude.{List, length}
+use Rattle.std.specs.Prelude.{◌≡◌, ℕ, ◌<◌, nat_le, Bool, List, length}
+use Rattle.prem_sets_sound.specs.Prelude.{run_in, Setup, TaskRun, count_in, ReplacementRule, OrderRule, Plant, IsPolicy, Call, Script, Promise, AreInputs, Sound}
 use Rattle.prem_sets_sound.specs.TaskRuns.Joins.{TaskPaces}
 use Rattle.prem_sets_sound.specs.StubLaws.JoinedRuns.Joined.{JobLimits, TaskJoins, IsJoined}
 use Rattle.prem_sets_sound.specs.Weave.Pace.Pace.{AreStated}

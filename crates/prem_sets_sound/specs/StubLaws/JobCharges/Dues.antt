@@ -1,7 +1,7 @@
 -- What a job is charged: no more than its bound.
+use Rattle.std.specs.Prelude.{◌≡◌, ◌<◌, ◌≤◌, ◌⊎◌, ℕ, nat_lt, nat_le, ◌||◌, Bool, true, List, length, Some, slice_get}
 use Rattle.prem_sets_sound.specs.Prelude.{Pieces, Setting, IsRunning, Codes, with_part, code_calls, IsStub, no_calls, Setup, TaskRun, CodeTable, part_weight, weight_at, marked_weights}
-use Rattle.prem_sets_sound.specs.Prelude.{job_weights, job_bound_of, code_part, Placed, Plan, marked_before, Plant, ◌≡◌, ◌<◌, ◌≤◌, ◌⊎◌, ℕ, nat_lt, nat_le, ◌||◌, Bool, true, List, length}
-use Rattle.prem_sets_sound.specs.Prelude.{Some, slice_get}
+use Rattle.prem_sets_sound.specs.Prelude.{job_weights, job_bound_of, code_part, Placed, Plan, marked_before, Plant}
 use Rattle.prem_layout.specs.Parts.{stub_part}
 use Rattle.prem_sets_sound.specs.StubLaws.JobCharges.Charged.{EachCall}
 use Rattle.prem_sets_sound.specs.StubLaws.JobWeave.Calm.{CalmStands}

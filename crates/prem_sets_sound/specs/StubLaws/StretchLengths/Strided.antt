@@ -1,8 +1,8 @@
 -- The stretches of runs of pieces and calls.
+use Rattle.std.specs.Prelude.{◌≡◌, ◌⊎◌, ◌<◌, ℕ, Bool, false, List, length}
 use Rattle.prem_sets_sound.specs.Prelude.{Pieces, no_pieces, straight, address_of, either, repeat, call_to, code_of, EachInstr, EachPiece, Setting, Calls, Ending, Falls, Returns, Stuck}
 use Rattle.prem_sets_sound.specs.Prelude.{is_return, run, AllCode, Codes, with_part, code_calls, no_calls, Setup, TaskRun, TaskState, Instr, CodeTable, job_weight, Placed, Plan, stretch_of}
-use Rattle.prem_sets_sound.specs.Prelude.{Sums, summed, greatest, part_sums, sums_at, job_sums, marked_sums, IsWithin, Parts, function_code, Plant, Routine, ◌≡◌, ◌⊎◌, ◌<◌, ℕ, Bool, false}
-use Rattle.prem_sets_sound.specs.Prelude.{List, length}
+use Rattle.prem_sets_sound.specs.Prelude.{Sums, summed, greatest, part_sums, sums_at, job_sums, marked_sums, IsWithin, Parts, function_code, Plant, Routine}
 use Rattle.prem_sets_sound.specs.StubLaws.JobCharges.Charged.{IsReady, EachCall}
 use Rattle.prem_sets_sound.specs.StubLaws.JobCharges.Dues.{TableStands, CallsBefore, PlacedStands}
 use Rattle.prem_sets_sound.specs.StubLaws.JobWeave.Calm.{CalmStands}

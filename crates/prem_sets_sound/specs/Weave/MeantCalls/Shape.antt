@@ -1,5 +1,6 @@
 -- A program keeps the number of its globals, and so do the marks of its calls.
-use Rattle.prem_sets_sound.specs.Prelude.{Resolved, Limits, start, do_jobs, ProgramState, ◌≡◌, ℕ, List, length, Ok}
+use Rattle.std.specs.Prelude.{◌≡◌, ℕ, List, length, Ok}
+use Rattle.prem_sets_sound.specs.Prelude.{Resolved, Limits, start, do_jobs, ProgramState}
 use Rattle.prem_sets_sound.specs.Weave.MeantCalls.Told.{HaveLength}
 
 pub record HasShape (n : ℕ) (s : ProgramState) : Type 0 where

@@ -1,4 +1,5 @@
-use Rattle.prem_analysis.proofs.Prelude.{analysed_text, turns_are_words, turn_bounds, ◌<◌, ◌^◌, ℕ, sym, ◌∙◌, subst, All}
+use Rattle.std.proofs.Common.{◌<◌, ◌^◌, ℕ, sym, ◌∙◌, subst}
+use Rattle.prem_analysis.proofs.Prelude.{analysed_text, turns_are_words, turn_bounds, All}
 use Rattle.prem_analysis.proofs.Bounded.{all_below}
 use Rattle.prem_analysis.proofs.analysed.Analysed.bounds.Goals as goal
 

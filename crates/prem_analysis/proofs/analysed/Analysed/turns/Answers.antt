@@ -1,4 +1,5 @@
-use Rattle.prem_analysis.proofs.Prelude.{analysed_text, turns_are_words, turn_bounds, ◌≡◌, ◌<◌, ◌^◌, List, ℕ, ap, sym, ◌∙◌, arith, subst, Some, slice_get}
+use Rattle.std.proofs.Common.{◌≡◌, ◌<◌, ◌^◌, List, ℕ, ap, sym, ◌∙◌, arith, subst, Some}
+use Rattle.prem_analysis.proofs.Prelude.{analysed_text, turns_are_words, turn_bounds, slice_get}
 use Rattle.prem_analysis.proofs.Arguments.{got_some}
 use Rattle.prem_analysis.proofs.Lookup.{got_none, number_got}
 use Rattle.prem_analysis.proofs.analysed.Analysed.turns.Goals as goal

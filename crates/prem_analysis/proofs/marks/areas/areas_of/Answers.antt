@@ -1,4 +1,5 @@
-use Rattle.prem_analysis.proofs.Prelude.{area_of, items_of, region_of, Region, ◌≡◌, ◌+◌, ◌∷◌, ◌++◌, map, drop, ap, sym, ◌∙◌, arith, List, flat_map, drop_more}
+use Rattle.std.proofs.Common.{◌≡◌, ◌+◌, ◌∷◌, ◌++◌, map, drop, ap, sym, ◌∙◌, arith, List, flat_map}
+use Rattle.prem_analysis.proofs.Prelude.{area_of, items_of, region_of, Region, drop_more}
 use Rattle.prem_analysis.proofs.MarksLemmas.Stated.{stated, one_more}
 use Rattle.prem_analysis.proofs.marks.areas.areas_of.Goals as goal
 

@@ -1,4 +1,5 @@
-use Rattle.prem_analysis.proofs.Prelude.{area_of, items_of, region_of, ◌≡◌, ◌++◌, map, drop, flat_map}
+use Rattle.std.proofs.Common.{◌≡◌, ◌++◌, map, drop, flat_map}
+use Rattle.prem_analysis.proofs.Prelude.{area_of, items_of, region_of}
 use Rattle.prem_analysis.proofs.MarksLemmas.Stated.{stated}
 use Rattle.prem_analysis.proofs.marks.areas.areas_of.Given as goal
 

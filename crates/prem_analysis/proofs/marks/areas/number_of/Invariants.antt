@@ -1,6 +1,6 @@
-use Rattle.prem_analysis.proofs.Prelude.{find_named, GlobalVariable, global_of, ◌≡◌, map, drop}
+use Rattle.std.proofs.Common.{option_map, ◌≡◌, map, drop}
+use Rattle.prem_analysis.proofs.Prelude.{find_named, GlobalVariable, global_of}
 use Rattle.prem_syntax.specs.Name.{name_bytes}
-use Rattle.std.proofs.Common.{option_map}
 use Rattle.prem_analysis.proofs.marks.areas.number_of.Given as goal
 
 abbrev pub invariant-loop-k : goal.invariant-loop-k

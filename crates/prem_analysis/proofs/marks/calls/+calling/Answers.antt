@@ -1,4 +1,5 @@
-use Rattle.prem_analysis.proofs.Prelude.{called, list_called, Step, List, ◌++◌, ap, sym, ◌∙◌}
+use Rattle.std.proofs.Common.{List, ◌++◌, ap, sym, ◌∙◌}
+use Rattle.prem_analysis.proofs.Prelude.{called, list_called, Step}
 use Rattle.prem_analysis.proofs.MarksLemmas.CalledTrees.{block_called}
 use Rattle.prem_analysis.proofs.marks.calls.+calling.Goals as goal
 

@@ -1,4 +1,5 @@
-use Rattle.prem_analysis.proofs.Prelude.{list_called, ◌≡◌, ◌++◌, drop}
+use Rattle.std.proofs.Common.{◌≡◌, ◌++◌, drop}
+use Rattle.prem_analysis.proofs.Prelude.{list_called}
 use Rattle.prem_analysis.proofs.marks.calls.+calling.Given as goal
 
 abbrev pub invariant-add_all_called-loop-s : goal.invariant-add_all_called-loop-s

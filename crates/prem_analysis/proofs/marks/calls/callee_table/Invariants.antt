@@ -1,4 +1,5 @@
-use Rattle.prem_analysis.proofs.Prelude.{called, ◌≡◌, ◌++◌, map, drop}
+use Rattle.std.proofs.Common.{◌≡◌, ◌++◌, map, drop}
+use Rattle.prem_analysis.proofs.Prelude.{called}
 use Rattle.prem_analysis.proofs.marks.calls.callee_table.Given as goal
 
 abbrev pub invariant-loop-f : goal.invariant-loop-f

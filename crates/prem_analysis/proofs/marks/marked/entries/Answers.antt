@@ -1,4 +1,5 @@
-use Rattle.prem_analysis.proofs.Prelude.{Entry, entry_of, entry_if, unlimited, global_of, mark_of, Routine, ◌++◌, map, ap, sym, ◌∙◌, arith, List, append-nil, option_map}
+use Rattle.std.proofs.Common.{◌++◌, map, ap, sym, ◌∙◌, arith, List}
+use Rattle.prem_analysis.proofs.Prelude.{Entry, entry_of, entry_if, unlimited, global_of, mark_of, Routine, append-nil, option_map}
 use Rattle.prem_analysis.proofs.MarksLemmas.Watched.{one_more, none_left_over}
 use Rattle.prem_analysis.proofs.marks.marked.entries.Goals as goal
 

@@ -1,4 +1,5 @@
-use Rattle.prem_analysis.proofs.Prelude.{entry_of, entries_from, unlimited, global_of, routines_of, ◌≡◌, ◌++◌, map, drop}
+use Rattle.std.proofs.Common.{◌≡◌, ◌++◌, map, drop}
+use Rattle.prem_analysis.proofs.Prelude.{entry_of, entries_from, unlimited, global_of, routines_of}
 use Rattle.prem_analysis.proofs.marks.marked.entries.Given as goal
 
 abbrev pub invariant-loop-n : goal.invariant-loop-n

@@ -1,4 +1,5 @@
-use Rattle.prem_analysis.proofs.Prelude.{called, items_of, Routine, ◌≡◌, map, ap, ◌∙◌, List}
+use Rattle.std.proofs.Common.{◌≡◌, map, ap, ◌∙◌, List}
+use Rattle.prem_analysis.proofs.Prelude.{called, items_of, Routine}
 use Rattle.prem_analysis.proofs.MarksLemmas.Watched.{if_watched}
 use Rattle.prem_analysis.proofs.marks.marked.marked_of.Goals as goal
 

@@ -1,4 +1,5 @@
-use Rattle.prem_analysis.proofs.Prelude.{with_all, ◌≡◌, drop}
+use Rattle.std.proofs.Common.{◌≡◌, drop}
+use Rattle.prem_analysis.proofs.Prelude.{with_all}
 use Rattle.prem_analysis.proofs.marks.reach.add_all.Given as goal
 
 abbrev pub invariant-loop-c : goal.invariant-loop-c

@@ -1,4 +1,5 @@
-use Rattle.prem_analysis.proofs.Prelude.{with_callees_below, ◌≡◌, ◌≤◌, map}
+use Rattle.std.proofs.Common.{◌≡◌, ◌≤◌, map}
+use Rattle.prem_analysis.proofs.Prelude.{with_callees_below}
 use Rattle.prem_analysis.proofs.marks.reach.add_callees_below.Given as goal
 
 abbrev pub invariant-loop-n : goal.invariant-loop-n

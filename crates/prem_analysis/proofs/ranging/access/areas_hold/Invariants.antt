@@ -1,4 +1,5 @@
-use Rattle.prem_analysis.proofs.Prelude.{area_of, span_of, areas_hold, ◌≡◌, map, drop}
+use Rattle.std.proofs.Common.{◌≡◌, map, drop}
+use Rattle.prem_analysis.proofs.Prelude.{area_of, span_of, areas_hold}
 use Rattle.prem_analysis.proofs.ranging.access.areas_hold.Given as goal
 
 abbrev pub invariant-loop-a : goal.invariant-loop-a

@@ -1,4 +1,5 @@
-use Rattle.prem_analysis.proofs.Prelude.{watches_at, span_of, in_watches, first_of, ◌≡◌, drop}
+use Rattle.std.proofs.Common.{◌≡◌, drop}
+use Rattle.prem_analysis.proofs.Prelude.{watches_at, span_of, in_watches, first_of}
 use Rattle.prem_analysis.proofs.ranging.access.in_watches.Given as goal
 
 abbrev pub invariant-loop-m : goal.invariant-loop-m

@@ -1,4 +1,5 @@
-use Rattle.prem_analysis.proofs.Prelude.{plain_list, env_of, assigns, loosened, ◌≡◌, drop}
+use Rattle.std.proofs.Common.{◌≡◌, drop}
+use Rattle.prem_analysis.proofs.Prelude.{plain_list, env_of, assigns, loosened}
 use Rattle.prem_analysis.proofs.ranging.assigned.+loosening.Given as goal
 
 abbrev pub invariant-loosen_all-loop-s : goal.invariant-loosen_all-loop-s

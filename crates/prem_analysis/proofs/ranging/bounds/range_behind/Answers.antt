@@ -1,4 +1,5 @@
-use Rattle.prem_analysis.proofs.Prelude.{ends, from_to, arith, sym, ◌∙◌, to_z, of_z, ints, clamps, w64, int_max, pos, ◌+ℤ◌, ◌-ℤ◌}
+use Rattle.std.specs.Prelude.{pos, ◌+ℤ◌, ◌-ℤ◌}
+use Rattle.prem_analysis.proofs.Prelude.{ends, from_to, arith, sym, ◌∙◌, to_z, of_z, ints, clamps, w64, int_max}
 use Rattle.prem_analysis.proofs.RangingLemmas.Locals.{within_yes, within_no, below_greatest}
 use Rattle.prem_analysis.proofs.ranging.bounds.range_behind.Goals as goal
 

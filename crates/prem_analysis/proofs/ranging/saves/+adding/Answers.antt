@@ -1,4 +1,5 @@
-use Rattle.prem_analysis.proofs.Prelude.{targets, list_targets, Step, List, ◌++◌, ap, sym, ◌∙◌}
+use Rattle.std.proofs.Common.{List, ◌++◌, ap, sym, ◌∙◌}
+use Rattle.prem_analysis.proofs.Prelude.{targets, list_targets, Step}
 use Rattle.prem_analysis.proofs.RangingLemmas.Sequences.{block_targets}
 use Rattle.prem_analysis.proofs.ranging.saves.+adding.Goals as goal
 

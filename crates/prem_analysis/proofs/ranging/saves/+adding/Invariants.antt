@@ -1,4 +1,5 @@
-use Rattle.prem_analysis.proofs.Prelude.{list_targets, ◌≡◌, ◌++◌, drop}
+use Rattle.std.proofs.Common.{◌≡◌, ◌++◌, drop}
+use Rattle.prem_analysis.proofs.Prelude.{list_targets}
 use Rattle.prem_analysis.proofs.ranging.saves.+adding.Given as goal
 
 abbrev pub invariant-add_all-loop-s : goal.invariant-add_all-loop-s

@@ -1,4 +1,5 @@
-use Rattle.prem_analysis.proofs.Prelude.{env_of, saves_of, merged, ◌≡◌, drop}
+use Rattle.std.proofs.Common.{◌≡◌, drop}
+use Rattle.prem_analysis.proofs.Prelude.{env_of, saves_of, merged}
 use Rattle.prem_analysis.proofs.ranging.saves.merge.Given as goal
 
 abbrev pub invariant-loop-s : goal.invariant-loop-s

@@ -1,4 +1,5 @@
-use Rattle.prem_analysis.proofs.Prelude.{env_of, saves_of, restored, ◌≡◌, drop}
+use Rattle.std.proofs.Common.{◌≡◌, drop}
+use Rattle.prem_analysis.proofs.Prelude.{env_of, saves_of, restored}
 use Rattle.prem_analysis.proofs.ranging.saves.restore.Given as goal
 
 abbrev pub invariant-loop-s : goal.invariant-loop-s

@@ -1,4 +1,5 @@
-use Rattle.prem_analysis.proofs.Prelude.{env_of, saves_of, saved, ◌≡◌, ◌++◌, drop}
+use Rattle.std.proofs.Common.{◌≡◌, ◌++◌, drop}
+use Rattle.prem_analysis.proofs.Prelude.{env_of, saves_of, saved}
 use Rattle.prem_analysis.proofs.ranging.saves.save.Given as goal
 
 abbrev pub invariant-loop-k : goal.invariant-loop-k

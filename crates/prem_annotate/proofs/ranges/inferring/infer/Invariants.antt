@@ -1,4 +1,5 @@
-use Rattle.prem_annotate.proofs.Prelude.{plain_routine, outlook_of, row_of, ◌≤◌, length, map}
+use Rattle.std.proofs.Common.{◌≤◌, length, map}
+use Rattle.prem_annotate.proofs.Prelude.{plain_routine, outlook_of, row_of}
 use Rattle.prem_annotate.proofs.Outlooks.{Inferring}
 use mathlib.Core.List.{reverse}
 use Rattle.prem_annotate.proofs.ranges.inferring.infer.Given as goal

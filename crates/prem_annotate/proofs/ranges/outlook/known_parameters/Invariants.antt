@@ -1,4 +1,5 @@
-use Rattle.prem_annotate.proofs.Prelude.{env_of, slot_of, with_slots, known_parameter, parameter_of, ◌≡◌, ◌++◌, map, drop}
+use Rattle.std.proofs.Common.{◌≡◌, ◌++◌, map, drop}
+use Rattle.prem_annotate.proofs.Prelude.{env_of, slot_of, with_slots, known_parameter, parameter_of}
 use Rattle.prem_annotate.proofs.ranges.outlook.known_parameters.Given as goal
 
 abbrev pub invariant-loop-i : goal.invariant-loop-i

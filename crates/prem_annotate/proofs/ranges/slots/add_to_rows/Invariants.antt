@@ -1,4 +1,5 @@
-use Rattle.prem_annotate.proofs.Prelude.{row_of, with_arguments, argument_of, ◌≡◌, ◌≤◌, length, map, drop}
+use Rattle.std.proofs.Common.{◌≡◌, ◌≤◌, length, map, drop}
+use Rattle.prem_annotate.proofs.Prelude.{row_of, with_arguments, argument_of}
 use Rattle.prem_annotate.proofs.ranges.slots.add_to_rows.Given as goal
 
 abbrev pub invariant-loop-n : goal.invariant-loop-n

@@ -1,4 +1,5 @@
-use Rattle.prem_annotate.proofs.Prelude.{row_of, empty_slot, parameter_of, ◌≡◌, ◌++◌, map, drop}
+use Rattle.std.proofs.Common.{◌≡◌, ◌++◌, map, drop}
+use Rattle.prem_annotate.proofs.Prelude.{row_of, empty_slot, parameter_of}
 use Rattle.prem_annotate.proofs.ranges.slots.empty_row.Given as goal
 
 abbrev pub invariant-loop-p : goal.invariant-loop-p

@@ -1,4 +1,5 @@
-use Rattle.prem_annotate.proofs.Prelude.{plain_routine, row_of, empty_row, ◌≡◌, ◌++◌, map, drop}
+use Rattle.std.proofs.Common.{◌≡◌, ◌++◌, map, drop}
+use Rattle.prem_annotate.proofs.Prelude.{plain_routine, row_of, empty_row}
 use Rattle.prem_annotate.proofs.ranges.slots.empty_rows.Given as goal
 
 abbrev pub invariant-loop-f : goal.invariant-loop-f

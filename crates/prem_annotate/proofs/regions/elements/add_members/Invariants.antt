@@ -1,4 +1,5 @@
-use Rattle.prem_annotate.proofs.Prelude.{outlook_of, elements_of, with_members, ◌≡◌, ◌≤◌, length, map, drop}
+use Rattle.std.proofs.Common.{◌≡◌, ◌≤◌, length, map, drop}
+use Rattle.prem_annotate.proofs.Prelude.{outlook_of, elements_of, with_members}
 use Rattle.prem_annotate.proofs.regions.elements.add_members.Given as goal
 
 abbrev pub invariant-loop-n : goal.invariant-loop-n

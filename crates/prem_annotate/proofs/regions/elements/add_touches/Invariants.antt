@@ -1,4 +1,5 @@
-use Rattle.prem_annotate.proofs.Prelude.{elements_of, with_touches, touch_of, ◌≡◌, ◌≤◌, length, map, drop}
+use Rattle.std.proofs.Common.{◌≡◌, ◌≤◌, length, map, drop}
+use Rattle.prem_annotate.proofs.Prelude.{elements_of, with_touches, touch_of}
 use Rattle.prem_annotate.proofs.regions.elements.add_touches.Given as goal
 
 abbrev pub invariant-loop-n : goal.invariant-loop-n

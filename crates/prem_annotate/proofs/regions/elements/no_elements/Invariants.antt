@@ -1,4 +1,5 @@
-use Rattle.prem_annotate.proofs.Prelude.{elements_of, no_elements, global_of, ◌≡◌, ◌++◌, map, drop}
+use Rattle.std.proofs.Common.{◌≡◌, ◌++◌, map, drop}
+use Rattle.prem_annotate.proofs.Prelude.{elements_of, no_elements, global_of}
 use Rattle.prem_annotate.proofs.regions.elements.no_elements.Given as goal
 
 abbrev pub invariant-loop-global : goal.invariant-loop-global

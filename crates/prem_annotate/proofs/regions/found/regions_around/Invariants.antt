@@ -1,4 +1,5 @@
-use Rattle.prem_annotate.proofs.Prelude.{elements_of, regions_around, items_of, global_of, region_of, ◌≡◌, ◌++◌, map, drop}
+use Rattle.std.proofs.Common.{◌≡◌, ◌++◌, map, drop}
+use Rattle.prem_annotate.proofs.Prelude.{elements_of, regions_around, items_of, global_of, region_of}
 use Rattle.prem_annotate.proofs.regions.found.regions_around.Given as goal
 
 abbrev pub invariant-loop-k : goal.invariant-loop-k

@@ -1,9 +1,9 @@
-use Rattle.prem_annotate.proofs.Prelude.{plain_routine, found_of, outlook_with, slot_of, row_of, with_arguments, routine_with, unwatched_site, argument_of, ParameterRange, Argument, in_routine}
-use Rattle.prem_annotate.proofs.Prelude.{first_of, unlimited, global_of, routines_of, ◌≡◌, List, ap, ◌∙◌, ◌<◌, length, arith, map, refl, Global, Vec}
+use Rattle.std.proofs.Common.{◌-◌, ◌≡◌, List, ap, ◌∙◌, ◌<◌, length, arith, map, refl}
+use Rattle.prem_annotate.proofs.Prelude.{plain_routine, found_of, outlook_with, slot_of, row_of, with_arguments, routine_with, unwatched_site, argument_of, ParameterRange, Argument}
+use Rattle.prem_annotate.proofs.Prelude.{in_routine, first_of, unlimited, global_of, routines_of, Global, Vec}
 use Rattle.prem_annotate.proofs.Outlooks.{row_there, ranged_there}
 use Rattle.prem_annotate.proofs.RulesLemmas.Found.{none_found, found_next, same_got}
 use Rattle.prem_tree.specs.declared.resolve.resolved.Routine.{Routine}
-use Rattle.std.proofs.Common.{◌-◌}
 use Rattle.prem_annotate.proofs.rules.finding.first_among.Goals as goal
 
 pub loop-n-init : goal.loop-n-init

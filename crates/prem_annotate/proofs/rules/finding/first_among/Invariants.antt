@@ -1,4 +1,5 @@
-use Rattle.prem_annotate.proofs.Prelude.{plain_routine, found_of, row_of, unlimited, global_of, routines_of, ◌≤◌, length, map}
+use Rattle.std.proofs.Common.{◌≤◌, length, map}
+use Rattle.prem_annotate.proofs.Prelude.{plain_routine, found_of, row_of, unlimited, global_of, routines_of}
 use Rattle.prem_annotate.proofs.RulesLemmas.Found.{Finding}
 use Rattle.prem_annotate.proofs.rules.finding.first_among.Given as goal
 

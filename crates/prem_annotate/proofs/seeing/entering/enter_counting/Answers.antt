@@ -1,5 +1,5 @@
-use Rattle.prem_annotate.proofs.Prelude.{plain, span_of, env_of, saves_of, sight_of, turn_bound, body_range, range_behind, at_local, with_range, range_of, saved_few, term_of, ◌≡◌, List, ap}
-use Rattle.prem_annotate.proofs.Prelude.{refl, ◌∙◌, ◌∷◌, arith, to_z, of_z, ints, w64}
+use Rattle.std.proofs.Common.{◌≡◌, List, ap, refl, ◌∙◌, ◌∷◌, arith, to_z, of_z}
+use Rattle.prem_annotate.proofs.Prelude.{plain, span_of, env_of, saves_of, sight_of, turn_bound, body_range, range_behind, at_local, with_range, range_of, saved_few, term_of, ints, w64}
 use Rattle.prem_analysis.proofs.Heads.{head, body_known, behind_saved}
 use Rattle.prem_analysis.specs.Arms.{capped}
 use Rattle.prem_analysis.specs.Ranging.Targets.{targets}

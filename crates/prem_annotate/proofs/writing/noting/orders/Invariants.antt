@@ -1,4 +1,5 @@
-use Rattle.prem_annotate.proofs.Prelude.{notes_of, orders_from, order_of, functions_of, item_of, ◌≡◌, ◌≤◌, ◌++◌, drop, map}
+use Rattle.std.proofs.Common.{◌≡◌, ◌≤◌, ◌++◌, drop, map}
+use Rattle.prem_annotate.proofs.Prelude.{notes_of, orders_from, order_of, functions_of, item_of}
 use Rattle.prem_annotate.proofs.writing.noting.orders.Given as goal
 
 abbrev pub invariant-loop-item : goal.invariant-loop-item

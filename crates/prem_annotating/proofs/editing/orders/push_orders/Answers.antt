@@ -1,4 +1,5 @@
-use Rattle.prem_annotating.proofs.Prelude.{order_of, orders_from, Order, parameter_of, mark_of, function_of, List, ap, ◌∙◌, ◌++◌, map, option_map}
+use Rattle.std.proofs.Common.{List, ap, ◌∙◌, ◌++◌, map}
+use Rattle.prem_annotating.proofs.Prelude.{order_of, orders_from, Order, parameter_of, mark_of, function_of, option_map}
 use Rattle.prem_annotating.proofs.EditingLemmas.Ranges.{orders_are}
 use Rattle.prem_syntax.specs.declared.tree.Param.{Param}
 use Rattle.prem_annotating.proofs.editing.orders.push_orders.Goals as goal

@@ -1,4 +1,5 @@
-use Rattle.prem_annotating.proofs.Prelude.{order_of, orders_from, parameter_of, ◌≡◌, ◌++◌, map, drop}
+use Rattle.std.proofs.Common.{◌≡◌, ◌++◌, map, drop}
+use Rattle.prem_annotating.proofs.Prelude.{order_of, orders_from, parameter_of}
 use Rattle.prem_annotating.proofs.editing.orders.push_ranges.Given as goal
 
 abbrev pub invariant-loop-i : goal.invariant-loop-i

@@ -1,4 +1,5 @@
-use Rattle.prem_annotating.proofs.Prelude.{same_regions, ◌≡◌, map, drop}
+use Rattle.std.proofs.Common.{◌≡◌, map, drop}
+use Rattle.prem_annotating.proofs.Prelude.{same_regions}
 use Rattle.prem_syntax.specs.SyntaxOf.{region_of}
 use Rattle.prem_annotating.proofs.editing.orders.same_regions.Given as goal
 

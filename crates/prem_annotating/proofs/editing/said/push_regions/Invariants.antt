@@ -1,4 +1,5 @@
-use Rattle.prem_annotating.proofs.Prelude.{regions_spelled, ◌≡◌, ◌++◌, map, drop}
+use Rattle.std.proofs.Common.{◌≡◌, ◌++◌, map, drop}
+use Rattle.prem_annotating.proofs.Prelude.{regions_spelled}
 use Rattle.prem_syntax.specs.SyntaxOf.{region_of}
 use Rattle.prem_annotating.proofs.editing.said.push_regions.Given as goal
 

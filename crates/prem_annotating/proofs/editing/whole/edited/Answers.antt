@@ -1,4 +1,5 @@
-use Rattle.prem_annotating.proofs.Prelude.{over, ◌++◌, List, ℕ, get_or, ap, ◌∙◌, arith}
+use Rattle.std.proofs.Common.{◌++◌, List, ℕ, get_or, ap, ◌∙◌, arith}
+use Rattle.prem_annotating.proofs.Prelude.{over}
 use Rattle.prem_annotating.proofs.EditingLemmas.Standing.{over_is, over_next, token_next, order_next, line_next, col_next}
 use Rattle.prem_annotating.proofs.editing.whole.edited.Goals as goal
 

@@ -1,4 +1,5 @@
-use Rattle.prem_annotating.proofs.Prelude.{order_of, over, edited, seen_of, ◌≡◌, ◌≤◌, ◌+◌, ◌++◌, drop, map}
+use Rattle.std.proofs.Common.{◌≡◌, ◌≤◌, ◌+◌, ◌++◌, drop, map}
+use Rattle.prem_annotating.proofs.Prelude.{order_of, over, edited, seen_of}
 use Rattle.prem_annotating.proofs.editing.whole.edited.Given as goal
 
 abbrev pub invariant-loop-i : goal.invariant-loop-i

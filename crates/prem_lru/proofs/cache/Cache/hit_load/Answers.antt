@@ -1,5 +1,5 @@
-use Rattle.prem_lru.proofs.Prelude.{IsWhole, cache_state, CacheState, is_resident, touch_of, slot_entry, slot_of, rule_of, after_hit_of, number_at, ◌≡◌, ◌∙◌, ◌+◌, ◌*◌, ◌/◌, ◌%◌, ◌<◌, ◌≤◌}
-use Rattle.prem_lru.proofs.Prelude.{ap, sym, subst, refl, length, true, false, arith, slice_index}
+use Rattle.std.proofs.Common.{◌≡◌, ◌∙◌, ◌+◌, ◌*◌, ◌/◌, ◌%◌, ◌<◌, ◌≤◌, ap, sym, subst, refl, length, true, false, arith}
+use Rattle.prem_lru.proofs.Prelude.{IsWhole, cache_state, CacheState, is_resident, touch_of, slot_entry, slot_of, rule_of, after_hit_of, number_at, slice_index}
 use Rattle.prem_lru.proofs.Caches.{access_within, line_within}
 use Rattle.prem_lru.proofs.FlatCaches.{way_at, no_way_at, none_found, slot_at, small_line, hit_whole, load_is}
 use Rattle.prem_lru.proofs.cache.Cache.hit_load.Goals as goal

@@ -1,5 +1,5 @@
-use Rattle.prem_lru.proofs.Prelude.{IsWhole, cache_state, CacheState, Touched, is_resident, touch_of, store_of, written, slot_entry, slot_of, rule_of, bytes_of, after_hit_of, ◌≡◌, ◌≢◌, ◌∙◌}
-use Rattle.prem_lru.proofs.Prelude.{◌+◌, ◌*◌, ◌/◌, ◌%◌, ◌<◌, ◌≤◌, ℕ, ap, sym, subst, refl, length, true, false, arith}
+use Rattle.std.proofs.Common.{◌≡◌, ◌≢◌, ◌∙◌, ◌+◌, ◌*◌, ◌/◌, ◌%◌, ◌<◌, ◌≤◌, ℕ, ap, sym, subst, refl, length, true, false, arith}
+use Rattle.prem_lru.proofs.Prelude.{IsWhole, cache_state, CacheState, Touched, is_resident, touch_of, store_of, written, slot_entry, slot_of, rule_of, bytes_of, after_hit_of}
 use Rattle.prem_lru.proofs.Caches.{access_within, line_within}
 use Rattle.prem_lru.proofs.FlatCaches.{way_at, no_way_at, none_found, slot_at, small_line, hit_whole, store_is, store_whole}
 use Rattle.prem_lru.proofs.cache.Cache.hit_store.Goals as goal

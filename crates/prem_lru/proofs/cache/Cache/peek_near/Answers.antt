@@ -1,4 +1,5 @@
-use Rattle.prem_lru.proofs.Prelude.{CacheState, view_of, slot_entry, slot_of, number_at, ◌∙◌, ◌+◌, ◌/◌, ◌%◌, ◌≤◌, refl, ap, sym, subst, arith, slice_index}
+use Rattle.std.proofs.Common.{◌∙◌, ◌+◌, ◌/◌, ◌%◌, ◌≤◌, refl, ap, sym, subst, arith}
+use Rattle.prem_lru.proofs.Prelude.{CacheState, view_of, slot_entry, slot_of, number_at, slice_index}
 use Rattle.prem_lru.proofs.Caches.{access_within}
 use Rattle.prem_lru.proofs.FlatCaches.{near_way, load_is, small_line}
 use Rattle.prem_lru.proofs.cache.Cache.peek_near.Goals as goal

@@ -1,5 +1,5 @@
-use Rattle.prem_lru.proofs.Prelude.{CacheState, touch_of, view_of, IsWayOf, no_line, slot_entry, slot_of, rule_of, number_at, ◌≡◌, ◌≢◌, ◌∙◌, ◌+◌, ◌*◌, ◌/◌, ◌%◌, ◌<◌, ◌≤◌, true, false, refl}
-use Rattle.prem_lru.proofs.Prelude.{ap, sym, subst, arith, inr, slice_index}
+use Rattle.std.proofs.Common.{◌≡◌, ◌≢◌, ◌∙◌, ◌+◌, ◌*◌, ◌/◌, ◌%◌, ◌<◌, ◌≤◌, true, false, refl, ap, sym, subst, arith, inr}
+use Rattle.prem_lru.proofs.Prelude.{CacheState, touch_of, view_of, IsWayOf, no_line, slot_entry, slot_of, rule_of, number_at, slice_index}
 use Rattle.prem_lru.proofs.Caches.{access_within}
 use Rattle.prem_lru.proofs.FlatCaches.{near_way, load_is, settled_way, small_line, word_within}
 use Rattle.prem_lru.proofs.FlatTouches.{set_below}

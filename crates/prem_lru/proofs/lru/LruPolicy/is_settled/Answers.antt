@@ -1,4 +1,5 @@
-use Rattle.prem_lru.proofs.Prelude.{Orders, ◌≡◌, ◌∙◌, ◌+◌, ◌*◌, ◌<◌, ap, sym, subst, length, get_or, eqb-true, get_or_default}
+use Rattle.std.proofs.Common.{◌≡◌, ◌∙◌, ◌+◌, ◌*◌, ◌<◌, ap, sym, subst, length, get_or}
+use Rattle.prem_lru.proofs.Prelude.{Orders, eqb-true, get_or_default}
 use Rattle.prem_lru.proofs.AgeSets.{slots_there, youngest_stays}
 use Rattle.prem_lru.proofs.lru.LruPolicy.is_settled.Goals as goal
 

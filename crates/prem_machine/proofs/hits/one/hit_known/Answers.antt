@@ -1,4 +1,5 @@
-use Rattle.prem_machine.proofs.Prelude.{Issued, issued_with, Task, Phase, items_of, touch_of, view_of, rule_of, IsHit, stores_in, with_outputs, ◌≡◌, ℕ, ◌/◌, List, ap, sym, ◌∙◌}
+use Rattle.std.proofs.Common.{◌≡◌, ℕ, ◌/◌, List, ap, sym, ◌∙◌}
+use Rattle.prem_machine.proofs.Prelude.{Issued, issued_with, Task, Phase, items_of, touch_of, view_of, rule_of, IsHit, stores_in, with_outputs}
 use Rattle.prem_machine.proofs.Finding.{known_hit}
 use Rattle.prem_machine.proofs.IssueLemmas.Executed.{with_any_outputs}
 use Rattle.prem_machine.proofs.hits.one.hit_known.Goals as goal

@@ -1,4 +1,5 @@
-use Rattle.prem_machine.proofs.Prelude.{EffectFits, Done, Loads, Moves, Puts, Stores, view_of, ComesTo, putting, storing, ◌≡◌, ◌+◌, ap, subst, sym, ◌∙◌, arith}
+use Rattle.std.proofs.Common.{◌≡◌, ◌+◌, ap, subst, sym, ◌∙◌, arith}
+use Rattle.prem_machine.proofs.Prelude.{EffectFits, Done, Loads, Moves, Puts, Stores, view_of, ComesTo, putting, storing}
 use Rattle.prem_machine.proofs.Finding.{comes_to, known_does, known_ready, load_does, load_goes_on}
 use Rattle.prem_machine.proofs.hits.one.hit_next.Goals as goal
 

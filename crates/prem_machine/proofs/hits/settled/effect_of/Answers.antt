@@ -1,4 +1,5 @@
-use Rattle.prem_machine.proofs.Prelude.{loads, Done, load_effect, ◌≡◌, ap, ◌∙◌}
+use Rattle.std.proofs.Common.{◌≡◌, ap, ◌∙◌}
+use Rattle.prem_machine.proofs.Prelude.{loads, Done, load_effect}
 use Rattle.prem_machine.proofs.hits.settled.effect_of.Goals as goal
 
 pub returns-clause-effect : goal.returns-clause-effect

@@ -1,4 +1,5 @@
-use Rattle.prem_machine.proofs.Prelude.{view_of, Finds, number_at, ◌+◌, ◌≤◌, ap, subst, ◌∙◌}
+use Rattle.std.proofs.Common.{◌+◌, ◌≤◌, ap, subst, ◌∙◌}
+use Rattle.prem_machine.proofs.Prelude.{view_of, Finds, number_at}
 use Rattle.std.specs.Prelude.{◌/◌}
 use Rattle.prem_machine.proofs.hits.settled.hit_settled.Goals as goal
 

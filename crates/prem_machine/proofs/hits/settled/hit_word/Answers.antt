@@ -1,4 +1,5 @@
-use Rattle.prem_machine.proofs.Prelude.{EffectFits, Done, Loads, Moves, Puts, Stores, view_of, ComesTo, putting, storing, ◌≡◌, ◌+◌, ap, subst, sym, ◌∙◌}
+use Rattle.std.proofs.Common.{◌≡◌, ◌+◌, ap, subst, sym, ◌∙◌}
+use Rattle.prem_machine.proofs.Prelude.{EffectFits, Done, Loads, Moves, Puts, Stores, view_of, ComesTo, putting, storing}
 use Rattle.prem_machine.proofs.Finding.{known_does, known_ready, load_does, load_goes_on}
 use Rattle.prem_machine.proofs.SettledHits.{word_comes}
 use Rattle.prem_machine.proofs.hits.settled.hit_word.Goals as goal

@@ -1,5 +1,5 @@
-use Rattle.prem_machine.proofs.Prelude.{task_after, Effect, Phase, items_of, CacheState, touch_of, view_of, rule_of, IsHit, stores_in, with_outputs, storing, ◌≤◌, ◌/◌, Some, refl, ap, subst}
-use Rattle.prem_machine.proofs.Prelude.{sym, ◌∙◌, arith}
+use Rattle.std.proofs.Common.{◌≤◌, ◌/◌, Some, refl, ap, subst, sym, ◌∙◌, arith}
+use Rattle.prem_machine.proofs.Prelude.{task_after, Effect, Phase, items_of, CacheState, touch_of, view_of, rule_of, IsHit, stores_in, with_outputs, storing}
 use Rattle.prem_isa.specs.declared.effect.AccessKind.TheVariants.{Stores as StoreKind}
 use Rattle.prem_machine.proofs.IssueLemmas.Executed.{with_any_outputs}
 use Rattle.prem_machine.proofs.SettledHits.{store_found, stores_few}

@@ -1,4 +1,5 @@
-use Rattle.prem_machine.proofs.Prelude.{cycles_of, rule_in, AreSilent, with_state, ◌-◌, ℕ, ap, sym, ◌∙◌, subst}
+use Rattle.std.proofs.Common.{◌-◌, ℕ, ap, sym, ◌∙◌, subst}
+use Rattle.prem_machine.proofs.Prelude.{cycles_of, rule_in, AreSilent, with_state}
 use Rattle.prem_machine.proofs.machine.Machine.glide.Goals as goal
 
 pub returns-then-at-now-clause-new : goal.returns-then-at-now-clause-new

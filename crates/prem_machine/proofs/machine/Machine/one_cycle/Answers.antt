@@ -1,4 +1,5 @@
-use Rattle.prem_machine.proofs.Prelude.{cycle_holds, WindowsHold, rule_in, Request, Runs, Stands, state_of, Running, setup_in, ◌<◌, ◌*◌, ◌^◌, List, ap, sym, subst, arith}
+use Rattle.std.proofs.Common.{◌<◌, ◌*◌, ◌^◌, List, ap, sym, subst, arith}
+use Rattle.prem_machine.proofs.Prelude.{cycle_holds, WindowsHold, rule_in, Request, Runs, Stands, state_of, Running, setup_in}
 use Rattle.prem_machine.proofs.Going.{within_next}
 use Rattle.prem_machine.proofs.machine.Machine.one_cycle.Goals as goal
 

@@ -1,4 +1,5 @@
-use Rattle.prem_machine.proofs.Prelude.{goes_untrapped, is_over, IsSteady, state_of, Running, ◌≡◌, ◌∙◌, ap, subst, false}
+use Rattle.std.proofs.Common.{◌≡◌, ◌∙◌, ap, subst, false}
+use Rattle.prem_machine.proofs.Prelude.{goes_untrapped, is_over, IsSteady, state_of, Running}
 use Rattle.prem_machine.proofs.Resting.{steady_parts}
 use Rattle.prem_machine.proofs.machine.Machine.parts.Goals as goal
 

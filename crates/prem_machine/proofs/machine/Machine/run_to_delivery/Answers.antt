@@ -1,4 +1,5 @@
-use Rattle.prem_machine.proofs.Prelude.{goes_untrapped, stop_of, RunsSilently, ended_so_far, Running, ◌≡◌, ◌<◌, None, sym, ◌∙◌, subst, arith, nat_tests}
+use Rattle.std.proofs.Common.{◌≡◌, ◌<◌, None, sym, ◌∙◌, subst, arith}
+use Rattle.prem_machine.proofs.Prelude.{goes_untrapped, stop_of, RunsSilently, ended_so_far, Running, nat_tests}
 use Rattle.prem_machine.proofs.Delivering.{runs_gliding, runs_none, runs_one, runs_then, within_limit}
 use Rattle.prem_machine.proofs.Going.{cycles_left, goes_less, goes_on}
 use Rattle.prem_machine.proofs.machine.Machine.run_to_delivery.Goals as goal

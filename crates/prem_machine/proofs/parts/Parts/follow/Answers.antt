@@ -1,5 +1,6 @@
+use Rattle.std.proofs.Common.{◌≡◌, ◌+◌, ◌-◌, ◌<◌, ◌≤◌, ℕ, All, List, length, map, ap, sym, ◌∙◌, subst, arith}
 use Rattle.prem_machine.proofs.Prelude.{cycles_of, MachineState, rule_in, TaskFacts, Mode, items_of, room_of, Sequence, LeadsTo, ended_in, ModeReady, state_of, AreSilent, setup_in, work_in}
-use Rattle.prem_machine.proofs.Prelude.{◌≡◌, ◌+◌, ◌-◌, ◌<◌, ◌≤◌, ℕ, All, List, length, map, ap, sym, ◌∙◌, subst, arith, with_items_is}
+use Rattle.prem_machine.proofs.Prelude.{with_items_is}
 use Rattle.prem_machine.proofs.Onward.{Leaves, onward_lone, onward_put, onward_runs, onward_silent, onward_stands, onward_state, room_for}
 use Rattle.prem_machine.proofs.Stretching.{silent_stays, stays}
 use Rattle.std.specs.Vec.{with_items}

@@ -1,4 +1,5 @@
-use Rattle.prem_machine.proofs.Prelude.{log_size, rule_in, IsNear, put_out, state_of, setup_in, IsPlant, ◌-◌, ap, sym, ◌∙◌, subst, arith}
+use Rattle.std.proofs.Common.{◌-◌, ap, sym, ◌∙◌, subst, arith}
+use Rattle.prem_machine.proofs.Prelude.{log_size, rule_in, IsNear, put_out, state_of, setup_in, IsPlant}
 use Rattle.prem_machine.proofs.IssueLemmas.Nearness.{near_none}
 use Rattle.prem_machine.proofs.Stretching.{follows_far, follows_none, follows_on, follows_one, rooms_going, silent_on, silent_stays, stays}
 use Rattle.prem_machine.proofs.parts.Parts.stretch.Goals as goal

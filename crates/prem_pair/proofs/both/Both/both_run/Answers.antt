@@ -1,4 +1,5 @@
-use Rattle.prem_pair.proofs.Prelude.{log_size, rule_in, near_none, IsNear, put_out, setup_in, pair_of, pair_cycles, IsPlant, ◌≤◌, ◌-◌, [], length, ap, sym, ◌∙◌, subst, arith}
+use Rattle.std.proofs.Common.{◌≤◌, ◌-◌, [], length, ap, sym, ◌∙◌, subst, arith}
+use Rattle.prem_pair.proofs.Prelude.{log_size, rule_in, near_none, IsNear, put_out, setup_in, pair_of, pair_cycles, IsPlant}
 use Rattle.prem_pair.proofs.Going.{none_trapped}
 use Rattle.prem_pair.proofs.Owning.{rooms_left}
 use Rattle.prem_pair.proofs.Stretched.{none_full, none_taken}

@@ -1,11 +1,11 @@
-use Rattle.prem_pair.proofs.Prelude.{rule_in, GatesState, state_of, setup_in, Parts, pair_of, PairState, one_trapped, pair_cycles, is_first, is_second, cycles_taken, Arrives, ◌≡◌, ◌+◌, ◌<◌}
-use Rattle.prem_pair.proofs.Prelude.{Option, Some, [], true, false, refl, ap, sym, ◌∙◌, subst, arith, IfNone, is_some, ◌||◌}
+use Rattle.std.proofs.Common.{◌≡◌, ◌+◌, ◌<◌, Option, Some, [], true, false, refl, ap, sym, ◌∙◌, subst, arith}
+use Rattle.std.specs.Prelude.{Bool, IfNone, is_some, ◌||◌}
+use Rattle.prem_pair.proofs.Prelude.{rule_in, GatesState, state_of, setup_in, Parts, pair_of, PairState, one_trapped, pair_cycles, is_first, is_second, cycles_taken, Arrives}
 use Rattle.prem_pair.proofs.CyclesLemmas.OneCycle.{paired}
 use Rattle.prem_pair.proofs.Going.{none_trapped}
 use Rattle.prem_pair.proofs.Owning.{rooms_left}
 use Rattle.prem_pair.proofs.Stretched.{none_full}
 use Rattle.prem_pair.proofs.Together.{apart_now, arrives_next, both_cycle, may_still, none_were_taken, one_taken, taken_one}
-use Rattle.std.specs.Prelude.{Bool}
 use Rattle.prem_pair.proofs.both.Both.both_step.Goals as goal
 
 pub returns-then-self-until-clause-state : goal.returns-then-self-until-clause-state

@@ -1,5 +1,5 @@
-use Rattle.prem_pair.proofs.Prelude.{next_cycle, with_now, MachineState, rule_in, state_of, setup_in, own_cycle, own_part, holder_after, is_second, core_done, move_had, ◌≡◌, ◌-◌, false, ap}
-use Rattle.prem_pair.proofs.Prelude.{sym, ◌∙◌, arith, is_some}
+use Rattle.std.proofs.Common.{◌≡◌, ◌-◌, false, ap, sym, ◌∙◌, arith}
+use Rattle.prem_pair.proofs.Prelude.{next_cycle, with_now, MachineState, rule_in, state_of, setup_in, own_cycle, own_part, holder_after, is_second, core_done, move_had, is_some}
 use Rattle.prem_pair.proofs.CyclesLemmas.Apart.{catch_goes, catch_stops}
 use Rattle.prem_pair.proofs.CyclesLemmas.OneCycle.{paired}
 use Rattle.prem_pair.proofs.Together.{own_done}

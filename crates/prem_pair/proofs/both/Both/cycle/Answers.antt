@@ -1,5 +1,7 @@
+use Rattle.std.proofs.Common.{◌≡◌, ◌+◌, None, ap, sym, ◌∙◌, subst, arith}
+use Rattle.std.specs.Prelude.{is_some, ◌&&◌}
 use Rattle.prem_pair.proofs.Prelude.{arrivals_at, next_cycle, MachineState, rule_in, GatesState, BusTurn, state_of, setup_in, bus_in, holder_in, pair_of, ended_in_place, first_acted}
-use Rattle.prem_pair.proofs.Prelude.{second_acted, pair_cycle, holder_after, is_first, is_second, Arrives, ◌≡◌, ◌+◌, None, ap, sym, ◌∙◌, subst, arith, is_some, ◌&&◌}
+use Rattle.prem_pair.proofs.Prelude.{second_acted, pair_cycle, holder_after, is_first, is_second, Arrives}
 use Rattle.prem_pair.proofs.Cycling.{first_is, second_is, cycle_traps, cycle_goes, same_pair, after_free, bus_frees}
 use Rattle.prem_pair.proofs.both.Both.cycle.Goals.{then-turn, else-turn, then-turn-2, else-turn-2}
 use Rattle.prem_pair.proofs.both.Both.cycle.Goals as goal

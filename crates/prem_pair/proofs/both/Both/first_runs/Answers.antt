@@ -1,5 +1,6 @@
+use Rattle.std.proofs.Common.{◌≡◌, ◌-◌, ◌*◌, ap, sym, ◌∙◌, subst, arith}
 use Rattle.prem_pair.proofs.Prelude.{Within, MachineState, rule_in, GatesState, core_within, less_arrive, behind_within, state_of, setup_in, pair_of, rest_with, side_passed, is_first}
-use Rattle.prem_pair.proofs.Prelude.{is_second, Goes, ◌≡◌, ◌-◌, ◌*◌, ap, sym, ◌∙◌, subst, arith}
+use Rattle.prem_pair.proofs.Prelude.{is_second, Goes}
 use Rattle.prem_pair.proofs.CyclesLemmas.OneCycle.{paired}
 use Rattle.prem_pair.proofs.Passes.{arrives_later, steady_pair}
 use Rattle.prem_pair.proofs.Stretched.{apart_first}

@@ -1,7 +1,7 @@
+use Rattle.std.proofs.Common.{◌≡◌, ℕ, true, length, ap, sym, ◌∙◌, refl, subst, arith, List, All}
 use Rattle.prem_pair.proofs.Prelude.{Arrivals, arrivals, arrivals_at, with_clash, devices_reported, one_if, Log, Work, DeviceFacts, turn_places, GatesState, Turned, bus_turn, LiesIn}
 use Rattle.prem_pair.proofs.Prelude.{SamePlaces, BusTurn, with_last, items_of, few_kept, rooms_kept, same_log, same_state, told_again, told_still, counts_in, arrivals_in, dropped_in}
-use Rattle.prem_pair.proofs.Prelude.{ended_in, work_in, bus_in, holder_in, pair_of, bus_first, asks, holder_with, some_wait, bus_done, ◌≡◌, ℕ, true, length, ap, sym, ◌∙◌, refl, subst, arith}
-use Rattle.prem_pair.proofs.Prelude.{List, All, with_items_is, is_some, IsSome}
+use Rattle.prem_pair.proofs.Prelude.{ended_in, work_in, bus_in, holder_in, pair_of, bus_first, asks, holder_with, some_wait, bus_done, with_items_is, is_some, IsSome}
 use Rattle.prem_cycle.specs.declared.facts.TaskFacts.{TaskFacts}
 use Rattle.prem_list.specs.declared.Sequence.{Sequence}
 use Rattle.prem_machine.proofs.Busy.{length-bus_turn, length-with_last, turn_pending}

@@ -1,4 +1,5 @@
-use Rattle.prem_pair.proofs.Prelude.{BusRun, bus_run, CoreWant, SameQueues, quiet_queues, pair_of, wanted, empty_window, ◌-◌, ap, sym, ◌∙◌, subst}
+use Rattle.std.proofs.Common.{◌-◌, ap, sym, ◌∙◌, subst}
+use Rattle.prem_pair.proofs.Prelude.{BusRun, bus_run, CoreWant, SameQueues, quiet_queues, pair_of, wanted, empty_window}
 use Rattle.prem_pair.proofs.Passes.{passed_arrives, passed_stands}
 use Rattle.prem_pair.proofs.both.Both.pass_turns.Goals as goal
 

@@ -1,4 +1,5 @@
-use Rattle.prem_pair.proofs.Prelude.{IsNextChange, CoreWant, behind_from, cycle_behind, pair_of, rest_with, wanted, empty_window, is_first, ℕ, ◌≤◌, ◌∙◌, ap, sym, subst}
+use Rattle.std.proofs.Common.{ℕ, ◌≤◌, ◌∙◌, ap, sym, subst}
+use Rattle.prem_pair.proofs.Prelude.{IsNextChange, CoreWant, behind_from, cycle_behind, pair_of, rest_with, wanted, empty_window, is_first}
 use Rattle.prem_pair.proofs.Passes.{rests_until}
 use Rattle.prem_pair.proofs.both.Both.rest.Goals as goal
 

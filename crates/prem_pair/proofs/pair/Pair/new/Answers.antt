@@ -1,4 +1,5 @@
-use Rattle.prem_pair.proofs.Prelude.{Request, items_of, setting_first, stands_first, IsSetting, Stands, ◌≡◌, List, sym, ◌∙◌, subst, arith}
+use Rattle.std.proofs.Common.{◌≡◌, List, sym, ◌∙◌, subst, arith}
+use Rattle.prem_pair.proofs.Prelude.{Request, items_of, setting_first, stands_first, IsSetting, Stands}
 use Rattle.prem_pair.proofs.Beginning.{pair_first, goes_first}
 use Rattle.prem_pair.proofs.pair.Pair.new.Goals as goal
 

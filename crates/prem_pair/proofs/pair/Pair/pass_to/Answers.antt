@@ -1,5 +1,5 @@
-use Rattle.prem_pair.proofs.Prelude.{rule_in, Request, setup_in, GoOn, pair_of, PairState, is_pair_over, pair_cycles, PairRests, running_of, PairRunning, with_state, ◌≡◌, ◌-◌, ◌∙◌, ap, sym}
-use Rattle.prem_pair.proofs.Prelude.{subst, false, List}
+use Rattle.std.proofs.Common.{◌≡◌, ◌-◌, ◌∙◌, ap, sym, subst, false, List}
+use Rattle.prem_pair.proofs.Prelude.{rule_in, Request, setup_in, GoOn, pair_of, PairState, is_pair_over, pair_cycles, PairRests, running_of, PairRunning, with_state}
 use Rattle.prem_pair.proofs.CyclesLemmas.Rests.{pair_one_step}
 use Rattle.prem_pair.proofs.Going.{none_trapped}
 use Rattle.prem_pair.proofs.Passes.{steady_pair}

@@ -1,4 +1,5 @@
-use Rattle.prem_pair.proofs.Prelude.{pair_stop_of, PairRunning, with_state, ◌≡◌, ◌<◌, None, ap, sym, ◌∙◌, subst}
+use Rattle.std.proofs.Common.{◌≡◌, ◌<◌, None, ap, sym, ◌∙◌, subst}
+use Rattle.prem_pair.proofs.Prelude.{pair_stop_of, PairRunning, with_state}
 use Rattle.prem_pair.proofs.Going.{GoesTo, cycles_left, goes_on, goes_to, ends_at, passes_to, smaller, takes_less, takes_to}
 use Rattle.prem_pair.proofs.pair.Pair.run_to.Goals as goal
 

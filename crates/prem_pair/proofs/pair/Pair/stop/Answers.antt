@@ -1,4 +1,5 @@
-use Rattle.prem_pair.proofs.Prelude.{not_ended, is_finished, is_full, full_told, state_of, pair_of, both_finished, ◌≡◌, ◌∙◌, sym, None, true, false}
+use Rattle.std.proofs.Common.{◌≡◌, ◌∙◌, sym, None, true, false}
+use Rattle.prem_pair.proofs.Prelude.{not_ended, is_finished, is_full, full_told, state_of, pair_of, both_finished}
 use Rattle.prem_pair.proofs.Going.{one_rests, stop_full, stop_other, stop_else}
 use Rattle.prem_pair.proofs.pair.Pair.stop.Goals.{else-is_finished-via-then-is_finished+else-is_finished-2, else-is_finished-via-else-is_finished}
 use Rattle.prem_pair.proofs.pair.Pair.stop.Goals as goal

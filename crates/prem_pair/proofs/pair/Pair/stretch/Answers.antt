@@ -1,5 +1,6 @@
-use Rattle.prem_pair.proofs.Prelude.{rule_in, Request, setup_in, GoOn, pair_of, PairState, is_pair_over, one_trapped, pair_cycles, cycles_taken, running_of, PairRunning, with_state, ◌≡◌}
-use Rattle.prem_pair.proofs.Prelude.{◌∙◌, sym, ap, subst, false, List, ◌≤◌, arith, ltb, ℕ, ◌<◌, nat_tests}
+use Rattle.std.proofs.Common.{◌≡◌, ◌∙◌, sym, ap, subst, false, List, ◌≤◌, arith, ltb, ℕ, ◌<◌}
+use Rattle.prem_pair.proofs.Prelude.{rule_in, Request, setup_in, GoOn, pair_of, PairState, is_pair_over, one_trapped, pair_cycles, cycles_taken, running_of, PairRunning, with_state}
+use Rattle.prem_pair.proofs.Prelude.{nat_tests}
 use Rattle.prem_pair.proofs.Going.{none_trapped, takes_none}
 use Rattle.prem_pair.proofs.pair.Pair.stretch.Goals.{then-now-before, else-now-before}
 use Rattle.prem_pair.proofs.pair.Pair.stretch.Goals as goal

@@ -1,5 +1,5 @@
-use Rattle.prem_text.proofs.Prelude.{seen_of, lexeme_of, Fails, place, Token, ◌≡◌, ◌<◌, ◌-◌, ◌++◌, ◌∷◌, [], suc, Ok, Err, Some, None, length, drop, refl, sym, ap, ◌∙◌, arith, rules, vec_len}
-use Rattle.prem_text.proofs.Prelude.{map, map_push, take_rest}
+use Rattle.std.proofs.Common.{◌≡◌, ◌<◌, ◌-◌, ◌++◌, ◌∷◌, [], suc, Ok, Err, Some, None, length, drop, refl, sym, ap, ◌∙◌, arith, rules, vec_len, map}
+use Rattle.prem_text.proofs.Prelude.{seen_of, lexeme_of, Fails, place, Token, map_push, take_rest}
 use Rattle.prem_text.proofs.LexingLemmas.Lexing.{passed, taken, full, wrong, whole, at_last, none_is, may_end}
 use Rattle.prem_text.proofs.lexing.lexer.tokens.Goals.{in-Some+else-len-eq-TEXT_TOKENS+in_ok-push, in_default}
 use Rattle.prem_text.specs.Lexing.Tokens.{step, at_end}

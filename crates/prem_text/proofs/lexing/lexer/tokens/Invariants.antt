@@ -1,4 +1,5 @@
-use Rattle.prem_text.proofs.Prelude.{seen_of, with_front, lex, beginning, Skip, ◌≡◌, ◌≤◌, ◌-◌, ◌+◌, drop, map, vec_len}
+use Rattle.std.proofs.Common.{◌≡◌, ◌≤◌, ◌-◌, ◌+◌, drop, map, vec_len}
+use Rattle.prem_text.proofs.Prelude.{seen_of, with_front, lex, beginning, Skip}
 use Rattle.prem_text.proofs.lexing.lexer.tokens.Given as goal
 
 abbrev pub invariant-loop-i : goal.invariant-loop-i

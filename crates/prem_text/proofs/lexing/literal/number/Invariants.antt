@@ -1,4 +1,5 @@
-use Rattle.prem_text.proofs.Prelude.{digits, ◌≡◌, ◌<◌, ◌^◌, drop}
+use Rattle.std.proofs.Common.{◌≡◌, ◌<◌, ◌^◌, drop}
+use Rattle.prem_text.proofs.Prelude.{digits}
 use Rattle.prem_text.proofs.lexing.literal.number.Given as goal
 
 abbrev pub invariant-loop-i : goal.invariant-loop-i

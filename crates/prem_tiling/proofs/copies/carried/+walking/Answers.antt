@@ -1,4 +1,5 @@
-use Rattle.prem_tiling.proofs.Prelude.{Statement, walk_of, walked, ◌≡◌, OnOk, subst, sym}
+use Rattle.std.proofs.Common.{◌≡◌, OnOk, subst, sym}
+use Rattle.prem_tiling.proofs.Prelude.{Statement, walk_of, walked}
 use Rattle.prem_tiling.proofs.CopiesLemmas.Blocks.{block_is}
 use Rattle.prem_tiling.proofs.copies.carried.+walking.Goals as goal
 

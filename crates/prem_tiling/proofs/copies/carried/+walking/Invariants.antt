@@ -1,4 +1,5 @@
-use Rattle.prem_tiling.proofs.Prelude.{statements_of, walk_of, all_walked, ◌≡◌, drop}
+use Rattle.std.proofs.Common.{◌≡◌, drop}
+use Rattle.prem_tiling.proofs.Prelude.{statements_of, walk_of, all_walked}
 use Rattle.prem_tiling.proofs.copies.carried.+walking.Given as goal
 
 abbrev pub invariant-walk_all-stmts : goal.invariant-walk_all-stmts

@@ -1,4 +1,5 @@
-use Rattle.prem_tiling.proofs.Prelude.{LocalVariable, statement_of, local_of, Walk, names_of, ◌≡◌, Option, ℕ, IfOk, None, length, map, refl, subst, sym, ◌∙◌, length-map}
+use Rattle.std.proofs.Common.{◌≡◌, Option, ℕ, IfOk, None, length, map, refl, subst, sym, ◌∙◌}
+use Rattle.prem_tiling.proofs.Prelude.{LocalVariable, statement_of, local_of, Walk, names_of, length-map}
 use Rattle.prem_tiling.proofs.CopiesLemmas.WalkLaws.{carried_is}
 use Rattle.prem_tiling.proofs.copies.carried.carried_in.Goals as goal
 

@@ -1,4 +1,5 @@
-use Rattle.prem_tiling.proofs.Prelude.{items_of, ◌≡◌, take}
+use Rattle.std.proofs.Common.{◌≡◌, take}
+use Rattle.prem_tiling.proofs.Prelude.{items_of}
 use Rattle.prem_tiling.proofs.copies.copy.copy_constants.Given as goal
 
 abbrev pub invariant-values : goal.invariant-values

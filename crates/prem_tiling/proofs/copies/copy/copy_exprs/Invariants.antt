@@ -1,4 +1,5 @@
-use Rattle.prem_tiling.proofs.Prelude.{items_of, expression_of, ◌≡◌, take, map}
+use Rattle.std.proofs.Common.{◌≡◌, take, map}
+use Rattle.prem_tiling.proofs.Prelude.{items_of, expression_of}
 use Rattle.prem_tiling.proofs.copies.copy.copy_exprs.Given as goal
 
 abbrev pub invariant-loop-e : goal.invariant-loop-e

@@ -1,4 +1,5 @@
-use Rattle.prem_tiling.proofs.Prelude.{items_of, local_of, ◌≡◌, take, map}
+use Rattle.std.proofs.Common.{◌≡◌, take, map}
+use Rattle.prem_tiling.proofs.Prelude.{items_of, local_of}
 use Rattle.prem_tiling.proofs.copies.copy.copy_locals.Given as goal
 
 abbrev pub invariant-loop-l : goal.invariant-loop-l

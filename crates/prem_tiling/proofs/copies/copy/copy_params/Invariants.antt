@@ -1,4 +1,5 @@
-use Rattle.prem_tiling.proofs.Prelude.{items_of, parameter_of, ◌≡◌, take, map}
+use Rattle.std.proofs.Common.{◌≡◌, take, map}
+use Rattle.prem_tiling.proofs.Prelude.{items_of, parameter_of}
 use Rattle.prem_tiling.proofs.copies.copy.copy_params.Given as goal
 
 abbrev pub invariant-loop-p : goal.invariant-loop-p

@@ -1,4 +1,5 @@
-use Rattle.prem_tiling.proofs.Prelude.{items_of, region_of, ◌≡◌, take, map}
+use Rattle.std.proofs.Common.{◌≡◌, take, map}
+use Rattle.prem_tiling.proofs.Prelude.{items_of, region_of}
 use Rattle.prem_tiling.proofs.copies.copy.copy_regions.Given as goal
 
 abbrev pub invariant-loop-r : goal.invariant-loop-r

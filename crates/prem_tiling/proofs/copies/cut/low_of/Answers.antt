@@ -1,4 +1,5 @@
-use Rattle.prem_tiling.proofs.Prelude.{cut_in, ℕ, ◌*◌, ◌/◌, ap, ◌∙◌}
+use Rattle.std.proofs.Common.{ℕ, ◌*◌, ◌/◌, ap, ◌∙◌}
+use Rattle.prem_tiling.proofs.Prelude.{cut_in}
 use Rattle.prem_tiling.proofs.CopiesLemmas.Sizes.{low_small}
 use Rattle.prem_tiling.proofs.copies.cut.low_of.Goals as goal
 

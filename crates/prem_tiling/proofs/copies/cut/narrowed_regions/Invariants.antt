@@ -1,4 +1,5 @@
-use Rattle.prem_tiling.proofs.Prelude.{items_of, region_of, narrowed_region, loop_in, ◌≡◌, take, map}
+use Rattle.std.proofs.Common.{◌≡◌, take, map}
+use Rattle.prem_tiling.proofs.Prelude.{items_of, region_of, narrowed_region, loop_in}
 use Rattle.prem_tiling.proofs.copies.cut.narrowed_regions.Given as goal
 
 abbrev pub invariant-loop-region : goal.invariant-loop-region

@@ -1,4 +1,5 @@
-use Rattle.prem_tiling.proofs.Prelude.{parameter_of, local_of, mark_of, cut_in, narrowed_mark, rules, ◌≡◌, map, option_map, ap, ◌∙◌}
+use Rattle.std.proofs.Common.{rules, ◌≡◌, map, option_map, ap, ◌∙◌}
+use Rattle.prem_tiling.proofs.Prelude.{parameter_of, local_of, mark_of, cut_in, narrowed_mark}
 use Rattle.prem_tiling.proofs.copies.cut.tile_of.Goals as goal
 
 pub returns : goal.returns

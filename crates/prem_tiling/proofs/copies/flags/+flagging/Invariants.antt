@@ -1,4 +1,5 @@
-use Rattle.prem_tiling.proofs.Prelude.{statements_of, all_assigned_flags, ◌≡◌, drop}
+use Rattle.std.proofs.Common.{◌≡◌, drop}
+use Rattle.prem_tiling.proofs.Prelude.{statements_of, all_assigned_flags}
 use Rattle.prem_tiling.proofs.copies.flags.+flagging.Given as goal
 
 abbrev pub invariant-flag_all_assigned-stmts : goal.invariant-flag_all_assigned-stmts

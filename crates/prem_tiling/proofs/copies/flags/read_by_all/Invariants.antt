@@ -1,4 +1,5 @@
-use Rattle.prem_tiling.proofs.Prelude.{expression_of, read_by_all, ◌≡◌, drop, map}
+use Rattle.std.proofs.Common.{◌≡◌, drop, map}
+use Rattle.prem_tiling.proofs.Prelude.{expression_of, read_by_all}
 use Rattle.prem_tiling.proofs.copies.flags.read_by_all.Given as goal
 
 abbrev pub invariant-terms : goal.invariant-terms

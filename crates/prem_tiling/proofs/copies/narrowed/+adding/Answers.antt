@@ -1,5 +1,5 @@
-use Rattle.prem_tiling.proofs.Prelude.{name_bytes, statement_of, statements_of, Stmt, added_view, Added, joined, added_in, added_within, ◌≡◌, ◌+◌, List, ◌∷◌, drop, ap, sym, ◌∙◌, arith}
-use Rattle.prem_tiling.proofs.Prelude.{drop_more}
+use Rattle.std.proofs.Common.{◌≡◌, ◌+◌, List, ◌∷◌, drop, ap, sym, ◌∙◌, arith}
+use Rattle.prem_tiling.proofs.Prelude.{name_bytes, statement_of, statements_of, Stmt, added_view, Added, joined, added_in, added_within, drop_more}
 use Rattle.prem_tiling.proofs.CopiesLemmas.Blocks.{block_is}
 use Rattle.prem_tiling.proofs.CopiesLemmas.Joined.{joined_assoc}
 use Rattle.prem_tiling.proofs.copies.narrowed.+adding.Goals as goal

@@ -1,4 +1,5 @@
-use Rattle.prem_tiling.proofs.Prelude.{name_bytes, statements_of, added_view, joined, added_within, ◌≡◌, drop}
+use Rattle.std.proofs.Common.{◌≡◌, drop}
+use Rattle.prem_tiling.proofs.Prelude.{name_bytes, statements_of, added_view, joined, added_within}
 use Rattle.prem_tiling.proofs.copies.narrowed.+adding.Given as goal
 
 abbrev pub invariant-added_within-stmts : goal.invariant-added_within-stmts

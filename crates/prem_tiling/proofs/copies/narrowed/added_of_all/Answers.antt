@@ -1,4 +1,5 @@
-use Rattle.prem_tiling.proofs.Prelude.{name_bytes, expression_of, added_view, Added, joined, added_of, added_of_all, ◌≡◌, ◌+◌, List, ◌∷◌, drop, map, ap, sym, ◌∙◌, arith, drop_more}
+use Rattle.std.proofs.Common.{◌≡◌, ◌+◌, List, ◌∷◌, drop, map, ap, sym, ◌∙◌, arith}
+use Rattle.prem_tiling.proofs.Prelude.{name_bytes, expression_of, added_view, Added, joined, added_of, added_of_all, drop_more}
 use Rattle.prem_syntax.specs.declared.tree.Expr.{Expr}
 use Rattle.prem_tiling.proofs.CopiesLemmas.Joined.{joined_assoc}
 use Rattle.prem_tiling.proofs.copies.narrowed.added_of_all.Goals as goal

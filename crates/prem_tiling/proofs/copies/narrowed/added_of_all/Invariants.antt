@@ -1,4 +1,5 @@
-use Rattle.prem_tiling.proofs.Prelude.{name_bytes, expression_of, added_view, joined, added_of_all, ◌≡◌, drop, map}
+use Rattle.std.proofs.Common.{◌≡◌, drop, map}
+use Rattle.prem_tiling.proofs.Prelude.{name_bytes, expression_of, added_view, joined, added_of_all}
 use Rattle.prem_tiling.proofs.copies.narrowed.added_of_all.Given as goal
 
 abbrev pub invariant-terms : goal.invariant-terms

@@ -1,4 +1,5 @@
-use Rattle.prem_tiling.proofs.Prelude.{statements_of, have_call, ◌≡◌, drop}
+use Rattle.std.proofs.Common.{◌≡◌, drop}
+use Rattle.prem_tiling.proofs.Prelude.{statements_of, have_call}
 use Rattle.prem_tiling.proofs.copies.shape.+calling.Given as goal
 
 abbrev pub invariant-have_call-stmts : goal.invariant-have_call-stmts

@@ -1,4 +1,5 @@
-use Rattle.prem_tiling.proofs.Prelude.{local_of, are_constants, ◌≡◌, drop, map}
+use Rattle.std.proofs.Common.{◌≡◌, drop, map}
+use Rattle.prem_tiling.proofs.Prelude.{local_of, are_constants}
 use Rattle.prem_tiling.proofs.copies.shape.are_constants.Given as goal
 
 abbrev pub invariant-locals : goal.invariant-locals

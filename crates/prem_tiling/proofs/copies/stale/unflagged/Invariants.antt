@@ -1,4 +1,5 @@
-use Rattle.prem_tiling.proofs.Prelude.{unflagged, ◌≡◌, ◌++◌, drop}
+use Rattle.std.proofs.Common.{◌≡◌, ◌++◌, drop}
+use Rattle.prem_tiling.proofs.Prelude.{unflagged}
 use Rattle.prem_tiling.proofs.copies.stale.unflagged.Given as goal
 
 abbrev pub invariant-numbers : goal.invariant-numbers

@@ -1,5 +1,5 @@
-use Rattle.prem_tiling.proofs.Prelude.{items_of, name_bytes, Statement, block, next_statement, statements_before, statements_of, Stmt, with_calls, all_with_calls, ◌≡◌, ◌+◌, List, ◌∷◌, drop}
-use Rattle.prem_tiling.proofs.Prelude.{map, ap, sym, ◌∙◌, arith, drop_more}
+use Rattle.std.proofs.Common.{◌≡◌, ◌+◌, List, ◌∷◌, drop, map, ap, sym, ◌∙◌, arith}
+use Rattle.prem_tiling.proofs.Prelude.{items_of, name_bytes, Statement, block, next_statement, statements_before, statements_of, Stmt, with_calls, all_with_calls, drop_more}
 use Rattle.prem_tiling.proofs.CopiesLemmas.Blocks.{block_is, before_push}
 use Rattle.prem_tiling.proofs.copies.statements.+copying.Goals as goal
 

@@ -1,4 +1,5 @@
-use Rattle.prem_tiling.proofs.Prelude.{items_of, name_bytes, statements_before, statements_of, all_with_calls, ◌≡◌, drop, map}
+use Rattle.std.proofs.Common.{◌≡◌, drop, map}
+use Rattle.prem_tiling.proofs.Prelude.{items_of, name_bytes, statements_before, statements_of, all_with_calls}
 use Rattle.prem_tiling.proofs.copies.statements.+copying.Given as goal
 
 abbrev pub invariant-copy_stmts-stmts : goal.invariant-copy_stmts-stmts

@@ -1,5 +1,5 @@
-use Rattle.prem_tiling.proofs.Prelude.{items_of, name_bytes, Statement, no_statements, next_statement, statements_before, Name, Stmt, calls_before, ◌≡◌, ◌+◌, List, ◌∷◌, drop, map, ap, sym}
-use Rattle.prem_tiling.proofs.Prelude.{◌∙◌, arith, drop_more}
+use Rattle.std.proofs.Common.{◌≡◌, ◌+◌, List, ◌∷◌, drop, map, ap, sym, ◌∙◌, arith}
+use Rattle.prem_tiling.proofs.Prelude.{items_of, name_bytes, Statement, no_statements, next_statement, statements_before, Name, Stmt, calls_before, drop_more}
 use Rattle.prem_tiling.proofs.CopiesLemmas.Blocks.{before_push}
 use Rattle.prem_tiling.proofs.copies.statements.calls_of.Goals as goal
 

@@ -1,4 +1,5 @@
-use Rattle.prem_tiling.proofs.Prelude.{items_of, name_bytes, no_statements, statements_before, calls_before, ◌≡◌, drop, map}
+use Rattle.std.proofs.Common.{◌≡◌, drop, map}
+use Rattle.prem_tiling.proofs.Prelude.{items_of, name_bytes, no_statements, statements_before, calls_before}
 use Rattle.prem_tiling.proofs.copies.statements.calls_of.Given as goal
 
 abbrev pub invariant-tiles : goal.invariant-tiles

@@ -1,4 +1,5 @@
-use Rattle.prem_tiling.proofs.Prelude.{functions_of, item_of, ◌≡◌, ◌+◌, ◌≤◌, drop, map, length}
+use Rattle.std.proofs.Common.{◌≡◌, ◌+◌, ◌≤◌, drop, map, length}
+use Rattle.prem_tiling.proofs.Prelude.{functions_of, item_of}
 use Rattle.prem_tiling.proofs.copies.tiled.function_count.Given as goal
 
 abbrev pub invariant-items : goal.invariant-items

@@ -1,5 +1,5 @@
-use Rattle.prem_tiling.proofs.Prelude.{items_of, name_bytes, FunctionText, function_item, item_of, cut_in, tile_name, tiles_from, ◌≡◌, ◌+◌, ◌-◌, ◌<◌, ℕ, suc, ◌∷◌, ◌++◌, map, ap, sym, ◌∙◌}
-use Rattle.prem_tiling.proofs.Prelude.{arith}
+use Rattle.std.proofs.Common.{◌≡◌, ◌+◌, ◌-◌, ◌<◌, ℕ, suc, ◌∷◌, ◌++◌, map, ap, sym, ◌∙◌, arith}
+use Rattle.prem_tiling.proofs.Prelude.{items_of, name_bytes, FunctionText, function_item, item_of, cut_in, tile_name, tiles_from}
 use Rattle.prem_tiling.proofs.CopiesLemmas.Looking.{map_push}
 use Rattle.prem_tiling.proofs.CopiesLemmas.TileNames.{names_count, name_at}
 use Rattle.prem_syntax.specs.declared.tree.Item.TheVariants as item

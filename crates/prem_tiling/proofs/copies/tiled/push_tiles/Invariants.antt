@@ -1,4 +1,5 @@
-use Rattle.prem_tiling.proofs.Prelude.{items_of, item_of, cut_in, tiles_from, ◌≡◌, ◌-◌, ◌++◌, map}
+use Rattle.std.proofs.Common.{◌≡◌, ◌-◌, ◌++◌, map}
+use Rattle.prem_tiling.proofs.Prelude.{items_of, item_of, cut_in, tiles_from}
 use Rattle.prem_tiling.proofs.copies.tiled.push_tiles.Given as goal
 
 abbrev pub invariant-tiles : goal.invariant-tiles

@@ -1,4 +1,5 @@
-use Rattle.prem_tiling.proofs.Prelude.{items_of, item_of, cut_in, tiled, ◌≡◌, ◌++◌, drop, map}
+use Rattle.std.proofs.Common.{◌≡◌, ◌++◌, drop, map}
+use Rattle.prem_tiling.proofs.Prelude.{items_of, item_of, cut_in, tiled}
 use Rattle.prem_tiling.proofs.copies.tiled.tiled.Given as goal
 
 abbrev pub invariant-items : goal.invariant-items

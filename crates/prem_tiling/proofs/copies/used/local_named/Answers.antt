@@ -1,4 +1,5 @@
-use Rattle.prem_tiling.proofs.Prelude.{has_name, name_bytes, local_of, names_of, rules, ◌≡◌, ◌+◌, true, List, ◌∷◌, drop, map, ap, sym, ◌∙◌, arith, drop_more, bytes_eq}
+use Rattle.std.proofs.Common.{rules, ◌≡◌, ◌+◌, true, List, ◌∷◌, drop, map, ap, sym, ◌∙◌, arith}
+use Rattle.prem_tiling.proofs.Prelude.{has_name, name_bytes, local_of, names_of, drop_more, bytes_eq}
 use Rattle.prem_syntax.specs.declared.tree.Local.{Local}
 use Rattle.prem_tiling.proofs.CopiesLemmas.Looking.{found_first}
 use Rattle.prem_tiling.proofs.copies.used.local_named.Goals as goal

@@ -1,4 +1,5 @@
-use Rattle.prem_tiling.proofs.Prelude.{has_name, local_of, names_of, ◌≡◌, drop, map}
+use Rattle.std.proofs.Common.{◌≡◌, drop, map}
+use Rattle.prem_tiling.proofs.Prelude.{has_name, local_of, names_of}
 use Rattle.prem_tiling.proofs.copies.used.local_named.Given as goal
 
 abbrev pub invariant-locals : goal.invariant-locals

@@ -1,4 +1,5 @@
-use Rattle.prem_tiling.proofs.Prelude.{functions_of, item_of, marked_named, ◌≡◌, drop, map}
+use Rattle.std.proofs.Common.{◌≡◌, drop, map}
+use Rattle.prem_tiling.proofs.Prelude.{functions_of, item_of, marked_named}
 use Rattle.prem_tiling.proofs.copies.used.marked_named.Given as goal
 
 abbrev pub invariant-items : goal.invariant-items

@@ -1,5 +1,5 @@
-use Rattle.prem_tiling.proofs.Prelude.{items_of, name_bytes, Text, Name, tile_name, tile_names, ◌≡◌, ◌+◌, ◌-◌, ◌≤◌, ℕ, suc, false, ◌||◌, List, ◌∷◌, ◌++◌, map, length, ap, sym, ◌∙◌, subst}
-use Rattle.prem_tiling.proofs.Prelude.{arith, le-ltb, list_any, nat_lt}
+use Rattle.std.proofs.Common.{◌≡◌, ◌+◌, ◌-◌, ◌≤◌, ℕ, suc, false, ◌||◌, List, ◌∷◌, ◌++◌, map, length, ap, sym, ◌∙◌, subst, arith}
+use Rattle.prem_tiling.proofs.Prelude.{items_of, name_bytes, Text, Name, tile_name, tile_names, le-ltb, list_any, nat_lt}
 use Rattle.prem_tiling.proofs.CopiesLemmas.Looking.{map_push}
 use Rattle.prem_tiling.proofs.copies.used.names_of_tiles.Goals as goal
 

@@ -1,4 +1,5 @@
-use Rattle.prem_tiling.proofs.Prelude.{items_of, name_bytes, Text, tile_names, ◌≡◌, ◌-◌, ◌++◌, map, length, list_any, nat_lt}
+use Rattle.std.proofs.Common.{◌≡◌, ◌-◌, ◌++◌, map, length}
+use Rattle.prem_tiling.proofs.Prelude.{items_of, name_bytes, Text, tile_names, list_any, nat_lt}
 use Rattle.prem_tiling.proofs.copies.used.names_of_tiles.Given as goal
 
 abbrev pub invariant-tiles : goal.invariant-tiles

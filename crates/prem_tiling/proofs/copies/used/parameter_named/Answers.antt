@@ -1,4 +1,5 @@
-use Rattle.prem_tiling.proofs.Prelude.{has_name, parameter_texts, name_bytes, parameter_of, rules, ◌≡◌, ◌+◌, true, List, ◌∷◌, drop, map, ap, sym, ◌∙◌, arith, drop_more, bytes_eq}
+use Rattle.std.proofs.Common.{rules, ◌≡◌, ◌+◌, true, List, ◌∷◌, drop, map, ap, sym, ◌∙◌, arith}
+use Rattle.prem_tiling.proofs.Prelude.{has_name, parameter_texts, name_bytes, parameter_of, drop_more, bytes_eq}
 use Rattle.prem_syntax.specs.declared.tree.Param.{Param}
 use Rattle.prem_tiling.proofs.CopiesLemmas.Looking.{found_first}
 use Rattle.prem_tiling.proofs.copies.used.parameter_named.Goals as goal

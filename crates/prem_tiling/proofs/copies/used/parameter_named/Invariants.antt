@@ -1,4 +1,5 @@
-use Rattle.prem_tiling.proofs.Prelude.{has_name, parameter_texts, parameter_of, ◌≡◌, drop, map}
+use Rattle.std.proofs.Common.{◌≡◌, drop, map}
+use Rattle.prem_tiling.proofs.Prelude.{has_name, parameter_texts, parameter_of}
 use Rattle.prem_tiling.proofs.copies.used.parameter_named.Given as goal
 
 abbrev pub invariant-params : goal.invariant-params

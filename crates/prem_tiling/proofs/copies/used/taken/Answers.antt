@@ -1,4 +1,5 @@
-use Rattle.prem_tiling.proofs.Prelude.{has_name, name_bytes, Text, item_of, program_of, tile_name, used_names, taken_from, ◌≡◌, ◌+◌, ◌-◌, suc, false, cond, Some, map, ap, sym, ◌∙◌, arith}
+use Rattle.std.proofs.Common.{◌≡◌, ◌+◌, ◌-◌, suc, false, cond, Some, map, ap, sym, ◌∙◌, arith}
+use Rattle.prem_tiling.proofs.Prelude.{has_name, name_bytes, Text, item_of, program_of, tile_name, used_names, taken_from}
 use Rattle.prem_tiling.proofs.CopiesLemmas.Looking.{not_found}
 use Rattle.prem_tiling.proofs.copies.used.taken.Goals as goal
 

@@ -1,4 +1,5 @@
-use Rattle.prem_tiling.proofs.Prelude.{name_bytes, program_of, used_names, taken_from, ◌≡◌, ◌-◌}
+use Rattle.std.proofs.Common.{◌≡◌, ◌-◌}
+use Rattle.prem_tiling.proofs.Prelude.{name_bytes, program_of, used_names, taken_from}
 use Rattle.prem_tiling.proofs.copies.used.taken.Given as goal
 
 abbrev pub invariant-tiles : goal.invariant-tiles

@@ -1,4 +1,5 @@
-use Rattle.prem_tiling.proofs.Prelude.{has_name, item_of, used_names, ◌≡◌, drop, map}
+use Rattle.std.proofs.Common.{◌≡◌, drop, map}
+use Rattle.prem_tiling.proofs.Prelude.{has_name, item_of, used_names}
 use Rattle.prem_tiling.proofs.copies.used.used.Given as goal
 
 abbrev pub invariant-items : goal.invariant-items

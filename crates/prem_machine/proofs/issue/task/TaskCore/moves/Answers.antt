@@ -1,4 +1,5 @@
-use Rattle.prem_machine.proofs.Prelude.{Task, decode_of, act_of, told_by, Phase, Moves, core_task, Inside, ◌≡◌, ℕ, subst, IfSome, slice_index}
+use Rattle.std.proofs.Common.{◌≡◌, ℕ, subst}
+use Rattle.prem_machine.proofs.Prelude.{Task, decode_of, act_of, told_by, Phase, Moves, core_task, Inside, IfSome, slice_index}
 use Rattle.prem_machine.proofs.issue.task.TaskCore.moves.Goals as goal
 
 pub returns-clause-outcome : goal.returns-clause-outcome

@@ -1,4 +1,5 @@
-use Rattle.prem_machine.proofs.Prelude.{Task, decode_of, act_of, told_by, Puts, core_task, Inside, Target, ◌≡◌, ℕ, subst, IfSome, slice_index}
+use Rattle.std.proofs.Common.{◌≡◌, ℕ, subst}
+use Rattle.prem_machine.proofs.Prelude.{Task, decode_of, act_of, told_by, Puts, core_task, Inside, Target, IfSome, slice_index}
 use Rattle.prem_machine.proofs.issue.task.TaskCore.puts.Goals as goal
 
 pub returns : goal.returns

@@ -1,4 +1,5 @@
-use Rattle.prem_machine.proofs.Prelude.{attempt_in, view_of, takes_word, Plant, number_at, ◌≤◌, ◌+◌, ℕ, ◌∙◌, ap, arith, nat_tests}
+use Rattle.std.proofs.Common.{◌≤◌, ◌+◌, ℕ, ◌∙◌, ap, arith}
+use Rattle.prem_machine.proofs.Prelude.{attempt_in, view_of, takes_word, Plant, number_at, nat_tests}
 use Rattle.prem_machine.proofs.Wanting.{takes_told}
 use Rattle.prem_machine.proofs.issue.task.TaskCore.takes_word.Goals as goal
 

@@ -1,4 +1,5 @@
-use Rattle.prem_tiling.proofs.Prelude.{walk_of, lowered_all, ◌≡◌, drop}
+use Rattle.std.proofs.Common.{◌≡◌, drop}
+use Rattle.prem_tiling.proofs.Prelude.{walk_of, lowered_all}
 use Rattle.prem_tiling.proofs.copies.stale.Stale.settle_all.Given as goal
 
 abbrev pub invariant-numbers : goal.invariant-numbers

@@ -1,4 +1,5 @@
-use Rattle.prem_tiling.proofs.Prelude.{undone, ◌≡◌, ◌∙◌, ◌+◌, ◌≤◌, true, Bool, List, [], ◌∷◌, ◌++◌, length, ap, sym, arith, length-set, with_items_is, slice_set}
+use Rattle.std.proofs.Common.{◌≡◌, ◌∙◌, ◌+◌, ◌≤◌, true, Bool, List, [], ◌∷◌, ◌++◌, length, ap, sym, arith}
+use Rattle.prem_tiling.proofs.Prelude.{undone, length-set, with_items_is, slice_set}
 use Rattle.prem_tiling.proofs.CopiesLemmas.Trail.{walk_with, undone_last}
 use Rattle.std.specs.Vec.{with_items}
 use Rattle.prem_tiling.proofs.copies.stale.Stale.undo.Goals as goal

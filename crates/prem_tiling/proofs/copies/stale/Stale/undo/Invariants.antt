@@ -1,4 +1,5 @@
-use Rattle.prem_tiling.proofs.Prelude.{walk_of, undone, ◌≡◌}
+use Rattle.std.proofs.Common.{◌≡◌}
+use Rattle.prem_tiling.proofs.Prelude.{walk_of, undone}
 use Rattle.prem_tiling.proofs.copies.stale.Stale.undo.Given as goal
 
 abbrev pub invariant-trail : goal.invariant-trail
