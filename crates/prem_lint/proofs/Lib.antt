@@ -2,4 +2,5 @@ pub mod Chains
 pub mod Tool
 pub mod Linting
 pub mod Stated
-pub mod Unformed
+pub mod Texts
+pub mod First

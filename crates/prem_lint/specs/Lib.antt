@@ -5,5 +5,6 @@ pub mod Diagnostics
 pub mod Places
 pub mod Keys
 pub mod Forms
+pub mod Programs
 pub mod Needs
 pub mod Answers

@@ -1,13 +1,11 @@
 -- The least lengths of all marked functions of a set.
-use Rattle.std.specs.Prelude.{ℕ, ◌+◌, ◌==◌, Bool, true, false, if◌then◌else◌, List, [], ◌∷◌, ◌++◌, slice_get, slice_index_or, Option, None, Some, Result, Ok, Err, codes, decimal}
+use Rattle.std.specs.Prelude.{ℕ, ◌+◌, ◌==◌, Bool, true, false, if◌then◌else◌, List, [], ◌∷◌, ◌++◌, slice_get, slice_index_or, Option, None, Some, codes, decimal}
 use Rattle.std.specs.List.{flat_map}
 use Rattle.prem_syntax.specs.Syntax.{Text, FunctionText, ProgramText}
 use Rattle.prem_syntax.specs.Resolve.{functions_of}
-use Rattle.prem_text.specs.declared.lexing.token.fail.FrontFail.{FrontFail}
-use Rattle.prem_text.specs.Texts.{reads}
 use Rattle.prem_layout.specs.Rules.{LateRule, Depth, Frame, MemoryFull, Reach, ConflictIn, BoundTooLarge, Length, Outputs, Intervals}
 use Rattle.prem_tasks.specs.Told.{Told, of_text, of_program, of_ranges, of_code}
-use Rattle.prem_tasks.specs.Broken.{TaskText, TaskSet}
+use Rattle.prem_tasks.specs.Broken.{TaskSet, programs_of}
 use Rattle.prem_tasks.specs.Compiled.{TaskFact, compiled}
 use Rattle.prem_lint.specs.declared.spot.Spot.TheVariants.{Line}
 use Rattle.prem_lint.specs.Spots.{head}
@@ -24,22 +22,18 @@ need_if file (Some f) bound = need_line file f bound
 abbrev pub need_text : Text → ℕ → List FunctionText → TaskFact → List ℕ
 need_text file n functions fact = if fact.0 == n then need_if file (slice_get functions fact.1.function) fact.1.bound else []
 
-abbrev pub program_needs : Text → ℕ → List TaskFact → Result ProgramText FrontFail → List ℕ
-program_needs file n facts (Err fail) = []
-program_needs file n facts (Ok p) = flat_map (need_text file n (functions_of p)) facts
-
--- of the marked functions of the n-th task, by its text
-unfoldable pub task_needs : Text → ℕ → List TaskFact → List ℕ → List ℕ
-task_needs file n facts text = program_needs file n facts (reads text)
+-- of the marked functions of the n-th task
+abbrev pub task_needs : Text → ℕ → List TaskFact → ProgramText → List ℕ
+task_needs file n facts p = flat_map (need_text file n (functions_of p)) facts
 
 -- the name of the n-th task's source
 abbrev pub source_name : List Text → ℕ → Text
 source_name sources n = slice_index_or sources n []
 
 -- of the tasks from the n-th on
-abbrev pub needs_from : ℕ → List TaskFact → List Text → List TaskText → List ℕ
+abbrev pub needs_from : ℕ → List TaskFact → List Text → List ProgramText → List ℕ
 needs_from n facts sources [] = []
-needs_from n facts sources (t ∷ ts) = task_needs (source_name sources n) n facts t.text ++ needs_from (n + 1) facts sources ts
+needs_from n facts sources (p ∷ ps) = task_needs (source_name sources n) n facts p ++ needs_from (n + 1) facts sources ps
 
 abbrev pub is_late_length : LateRule → Bool
 is_late_length (Depth line) = false
@@ -61,4 +55,4 @@ is_length (of_code rule) = is_late_length rule
 
 -- where a stated length is too short, the bound of each marked function of the set, as it is told of a set that breaks no rule
 unfoldable pub needs_text : List Text → TaskSet → Told → List ℕ
-needs_text sources set told = if is_length told then needs_from 0 (compiled set).intervals sources set.tasks else []
+needs_text sources set told = if is_length told then needs_from 0 (compiled set).intervals sources (programs_of set.tasks) else []

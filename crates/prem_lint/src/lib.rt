@@ -6,11 +6,11 @@
 
 mod advice;
 mod answer;
-mod bounds;
 mod diagnostic;
 mod element;
 mod excerpt;
 mod form;
+mod formed;
 mod keys;
 mod message;
 mod needs;

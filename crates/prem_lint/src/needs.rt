@@ -1,20 +1,24 @@
 // The least lengths of all marked functions, where one is too short.
 ghost use Rattle.std.specs.Prelude.{◌≡◌, ◌++◌, OnOk, map};
 ghost use Rattle.std.specs.List.{flat_map};
-ghost use Rattle.prem_syntax.specs.SyntaxOf.{function_of};
+ghost use Rattle.prem_syntax.specs.SyntaxOf.{function_of, program_of};
 ghost use Rattle.prem_place.specs.Verdict.Told.{numbered};
-ghost use Rattle.prem_tasks.specs.SetOf.{set_of, task_of};
+ghost use Rattle.prem_tasks.specs.SetOf.{set_of};
 ghost use Rattle.prem_tasks.specs.Told.{told_of};
+ghost use Rattle.prem_stages.specs.Coded.{AreFormed};
+ghost use Rattle.prem_stages.specs.Stages.{checked_text};
+ghost use Rattle.prem_compile.specs.Bounding.{AreBounds};
 ghost use Rattle.prem_lint.specs.Needs.{is_length, need_line, need_text, needs_from, needs_text, source_name, task_needs};
 
-use crate::bounds::least_lengths;
 use crate::put::{put_bytes, put_head, put_name, put_number};
 use crate::spot::Spot;
 use prem_compile::IntervalFact;
-use prem_front::{FrontFail, parse};
+use prem_compile::placed_stages::TaskBounds;
+use prem_compile::telling::told_bounds;
 use prem_plant::Label;
-use prem_syntax::Function;
-use prem_tasks::{Rule, TaskSet, TaskText};
+use prem_syntax::{Function, Program};
+use prem_tasks::{Rule, TaskSet};
+use prem_tree::Checked;
 use prem_tree::resolve::functions_of;
 use std::alloc::{AllocError, Global};
 
@@ -72,30 +76,19 @@ fn put_facts(
     Ok(())
 }
 
-/// The least lengths of the marked functions of the n-th task, by its text.
-#[tactic(auto, unfolding(crate::specs::Needs::task_needs))]
+/// The least lengths of the marked functions of the n-th task, which has this program.
 fn put_task_needs(
     alloc: Global,
     text: &mut Vec<u8>,
     file: &str,
     n: usize,
     facts: &[IntervalFact],
-    source: &[u8],
+    program: &Program,
 ) -> Result<(), AllocError>
-    ensures { OnOk result (text.new.items ≡ text.old.items ++ task_needs file.now n (map numbered facts.now) source.now) }
+    ensures { OnOk result (text.new.items ≡ text.old.items ++ task_needs file.now n (map numbered facts.now) (program_of program.now)) }
 {
-    match parse(alloc, source) {
-        Ok(p) => {
-            let functions = functions_of(alloc, p.items.items())?;
-            put_facts(alloc, text, file, n, &functions, facts)
-        }
-        Err(FrontFail::OutOfMemory) => Err(AllocError),
-        Err(FrontFail::TooLong) => Ok(()),
-        Err(FrontFail::NotText { .. }) => Ok(()),
-        Err(FrontFail::Token { .. }) => Ok(()),
-        Err(FrontFail::Syntax { .. }) => Ok(()),
-        Err(FrontFail::TooDeep { .. }) => Ok(()),
-    }
+    let functions = functions_of(alloc, program.items.items())?;
+    put_facts(alloc, text, file, n, &functions, facts)
 }
 
 /// The name of the n-th task's source.
@@ -108,19 +101,19 @@ pub(crate) fn source_name(sources: &[Label], n: usize) -> &str
     }
 }
 
-/// The least lengths of the marked functions of all tasks.
+/// The least lengths of the marked functions of all tasks, which have these programs.
 fn put_all_needs(
     alloc: Global,
     text: &mut Vec<u8>,
     facts: &[IntervalFact],
     sources: &[Label],
-    tasks: &[TaskText],
+    programs: &[Checked],
 ) -> Result<(), AllocError>
-    ensures { OnOk result (text.new.items ≡ text.old.items ++ needs_from 0 (map numbered facts.now) sources.now (map task_of tasks.now)) }
+    ensures { OnOk result (text.new.items ≡ text.old.items ++ needs_from 0 (map numbered facts.now) sources.now (map checked_text programs.now)) }
 {
-    for n in 0..tasks.len() {
+    for n in 0..programs.len() {
         let file = source_name(sources, n);
-        put_task_needs(alloc, text, file, n, facts, tasks[n].text.items())?;
+        put_task_needs(alloc, text, file, n, facts, programs[n].program())?;
     }
     Ok(())
 }
@@ -132,20 +125,25 @@ fn is_length(rule: &Rule) -> bool
     matches!(rule, Rule::Length { .. })
 }
 
-/// Where a stated length is too short, the least length of each marked function of the set.
+/// Where a stated length is too short, the least length of each marked function of the set, which has these programs and bounds.
 #[tactic(auto, unfolding(crate::specs::Needs::needs_text))]
 pub(crate) fn put_needs(
     alloc: Global,
     text: &mut Vec<u8>,
     sources: &[Label],
     set: &TaskSet,
+    programs: &[Checked],
+    bounds: Vec<TaskBounds>,
     rule: &Rule,
 ) -> Result<(), AllocError>
+    requires programs { AreFormed (set_of set.now) programs.now }
+    requires bounds { AreBounds (set_of set.now) bounds.items }
     ensures { OnOk result (text.new.items ≡ text.old.items ++ needs_text sources.now (set_of set.now) (told_of rule.now)) }
 {
     if !is_length(rule) {
         return Ok(());
     }
-    let facts = least_lengths(alloc, set)?;
-    put_all_needs(alloc, text, facts.items(), sources, set.tasks())
+    let _plant = set.plant();
+    let told = told_bounds(alloc, bounds)?;
+    put_all_needs(alloc, text, told.intervals.items(), sources, programs)
 }

@@ -8,14 +8,14 @@ ghost use Rattle.prem_syntax.specs.ProgramRules.{IsWellFormed};
 ghost use Rattle.prem_tree.specs.Checked.{checked_program};
 ghost use Rattle.prem_ranges.specs.RangesKept.{first_range_breach};
 ghost use Rattle.prem_tasks.specs.Told.{told_of};
-ghost use Rattle.prem_lint.specs.Places.{function_spot, item_place, named_place, program_place, range_place, range_spot, spot_at, spot_of};
+ghost use Rattle.prem_stages.specs.Stages.{checked_text};
+ghost use Rattle.prem_lint.specs.Places.{item_place, named_place, program_place, spot_at, spot_of};
+ghost use Rattle.prem_lint.specs.Programs.{HasProgram, function_spot_of, range_spot_of};
 
 use crate::excerpt::place_of;
 use crate::spot::Spot;
 use prem_analysis::marks::marked_of;
 use prem_analysis::see_program;
-use prem_check::{CheckFail, check};
-use prem_front::{FrontFail, parse};
 use prem_syntax::{Item, Place, Program, have_words};
 use prem_tasks::Rule;
 use prem_tree::Checked;
@@ -62,19 +62,13 @@ fn spot_at(place: Option<Place>) -> Spot
     }
 }
 
-/// Where a text has the function with this name.
-#[tactic(auto, unfolding(crate::specs::Places::function_spot))]
-fn function_spot(alloc: Global, name: &[u8], text: &[u8]) -> Result<Spot, AllocError>
-    ensures { IfOk result (λ spot. spot ≡ function_spot name.now text.now) }
+/// Where a program has the function with this name.
+fn function_spot(name: &[u8], program: Option<&Checked>) -> Spot
+    ensures { result ≡ function_spot_of name.now (option_map (λ c. checked_text c.now) program.entry) }
 {
-    match parse(alloc, text) {
-        Ok(p) => Ok(spot_at(named_place(name, &p))),
-        Err(FrontFail::OutOfMemory) => Err(AllocError),
-        Err(FrontFail::TooLong) => Ok(Spot::Whole),
-        Err(FrontFail::NotText { .. }) => Ok(Spot::Whole),
-        Err(FrontFail::Token { .. }) => Ok(Spot::Whole),
-        Err(FrontFail::Syntax { .. }) => Ok(Spot::Whole),
-        Err(FrontFail::TooDeep { .. }) => Ok(Spot::Whole),
+    match program {
+        None => Spot::Whole,
+        Some(program) => spot_at(named_place(name, program.program())),
     }
 }
 
@@ -104,40 +98,15 @@ fn checked_place(alloc: Global, c: &Checked) -> Result<Option<Place>, AllocError
     breach_place(alloc, program)
 }
 
-/// The same of a program, and none where it isn't well-formed.
-#[tactic(auto, using(crate::proofs::Unformed::no_place))]
-fn program_place(alloc: Global, p: Program) -> Result<Option<Place>, AllocError>
-    ensures { IfOk result (λ at. at ≡ program_place (program_of p)) }
-{
-    match check(alloc, p) {
-        Ok(checked) => checked_place(alloc, &checked),
-        Err(CheckFail::OutOfMemory) => Err(AllocError),
-        Err(_) => Ok(None),
-    }
-}
-
-/// The place of the first broken rule on ranges of a text.
-#[tactic(auto, unfolding(crate::specs::Places::range_place))]
-fn range_place(alloc: Global, text: &[u8]) -> Result<Option<Place>, AllocError>
-    ensures { IfOk result (λ at. at ≡ range_place text.now) }
-{
-    match parse(alloc, text) {
-        Ok(p) => program_place(alloc, p),
-        Err(FrontFail::OutOfMemory) => Err(AllocError),
-        Err(FrontFail::TooLong) => Ok(None),
-        Err(FrontFail::NotText { .. }) => Ok(None),
-        Err(FrontFail::Token { .. }) => Ok(None),
-        Err(FrontFail::Syntax { .. }) => Ok(None),
-        Err(FrontFail::TooDeep { .. }) => Ok(None),
-    }
-}
-
 /// A line, with the column of the first broken rule on ranges.
-#[tactic(auto, unfolding(crate::specs::Places::range_spot))]
-fn range_spot(alloc: Global, line: u32, text: &[u8]) -> Result<Spot, AllocError>
-    ensures { IfOk result (λ spot. spot ≡ range_spot line text.now) }
+fn range_spot(alloc: Global, line: u32, program: Option<&Checked>) -> Result<Spot, AllocError>
+    ensures { IfOk result (λ spot. spot ≡ range_spot_of line (option_map (λ c. checked_text c.now) program.entry)) }
 {
-    match range_place(alloc, text)? {
+    let place = match program {
+        None => None,
+        Some(program) => checked_place(alloc, program)?,
+    };
+    match place {
         None => Ok(Spot::Line(line as usize)),
         Some(at) => Ok(Spot::At {
             line: line as usize,
@@ -146,9 +115,15 @@ fn range_spot(alloc: Global, line: u32, text: &[u8]) -> Result<Spot, AllocError>
     }
 }
 
-/// Where in a text a rule is broken.
-#[tactic(auto, unfolding(crate::specs::Places::spot_of))]
-pub(crate) fn spot_of(alloc: Global, rule: &Rule, text: &[u8]) -> Result<Spot, AllocError>
+/// Where in a text a rule is broken, of which this is the program where the rule is one behind those on programs.
+#[tactic(auto, using(crate::proofs::Texts::function_there, crate::proofs::Texts::range_there), unfolding(crate::specs::Places::spot_of))]
+pub(crate) fn spot_of(
+    alloc: Global,
+    rule: &Rule,
+    text: &[u8],
+    program: Option<&Checked>,
+) -> Result<Spot, AllocError>
+    requires { HasProgram (told_of rule.now) text.now (option_map (λ c. checked_text c.now) program) }
     ensures { IfOk result (λ spot. spot ≡ spot_of (told_of rule.now) text.now) }
 {
     match rule {
@@ -172,19 +147,19 @@ pub(crate) fn spot_of(alloc: Global, rule: &Rule, text: &[u8]) -> Result<Spot, A
         Rule::MarkedCall { line } => Ok(Spot::Line(*line as usize)),
         Rule::SystemCall { line } => Ok(Spot::Line(*line as usize)),
         Rule::LoopForm { line } => Ok(Spot::Line(*line as usize)),
-        Rule::LoopBound { line } => range_spot(alloc, *line, text),
-        Rule::TooLarge { line } => range_spot(alloc, *line, text),
-        Rule::ZeroDivisor { line, .. } => range_spot(alloc, *line, text),
-        Rule::IndexOutside { line, .. } => range_spot(alloc, *line, text),
-        Rule::RegionOutside { line, .. } => range_spot(alloc, *line, text),
-        Rule::ArgRange { line, .. } => range_spot(alloc, *line, text),
+        Rule::LoopBound { line } => range_spot(alloc, *line, program),
+        Rule::TooLarge { line } => range_spot(alloc, *line, program),
+        Rule::ZeroDivisor { line, .. } => range_spot(alloc, *line, program),
+        Rule::IndexOutside { line, .. } => range_spot(alloc, *line, program),
+        Rule::RegionOutside { line, .. } => range_spot(alloc, *line, program),
+        Rule::ArgRange { line, .. } => range_spot(alloc, *line, program),
         Rule::Depth { line } => Ok(Spot::Line(*line as usize)),
-        Rule::Frame { function } => function_spot(alloc, function.bytes(), text),
+        Rule::Frame { function } => Ok(function_spot(function.bytes(), program)),
         Rule::MemoryFull { .. } => Ok(Spot::Whole),
-        Rule::Reach { function } => function_spot(alloc, function.bytes(), text),
-        Rule::Conflict { function, .. } => function_spot(alloc, function.bytes(), text),
-        Rule::BoundTooLarge { function } => function_spot(alloc, function.bytes(), text),
-        Rule::Length { function, .. } => function_spot(alloc, function.bytes(), text),
+        Rule::Reach { function } => Ok(function_spot(function.bytes(), program)),
+        Rule::Conflict { function, .. } => Ok(function_spot(function.bytes(), program)),
+        Rule::BoundTooLarge { function } => Ok(function_spot(function.bytes(), program)),
+        Rule::Length { function, .. } => Ok(function_spot(function.bytes(), program)),
         Rule::Outputs => Ok(Spot::Whole),
         Rule::Intervals => Ok(Spot::Whole),
     }
