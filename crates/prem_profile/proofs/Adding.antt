@@ -1,15 +1,15 @@
 -- The lines of a profile add up to its rows.
 use Rattle.std.specs.Prelude.{◌==◌, ◌&&◌, slice_index_or, codes}
-use Rattle.std.proofs.Common.{◌≡◌, ℕ, zero, suc, ◌+◌, ◌≤◌, List, [], ◌∷◌, ◌++◌, Bool, true, false, cond, length, take, drop, refl, ap, ap₂, sym, ◌∙◌, arith}
+use Rattle.std.proofs.Common.{◌≡◌, ℕ, zero, suc, ◌+◌, ◌≤◌, List, [], ◌∷◌, ◌++◌, Option, Some, None, Bool, true, false, cond, length, take, drop, refl, ap, ap₂, sym, ◌∙◌, arith}
 use Rattle.std.proofs.lemmas.Bool.Decides.{nat_tests}
 use Rattle.prem_profile.specs.declared.cost.Cost.{Cost}
 use Rattle.prem_profile.specs.declared.callgrind.Source.{Source}
 use Rattle.prem_profile.specs.Spent.{no_cost, plus}
 use Rattle.prem_profile.specs.Account.{costs_sum}
-use Rattle.prem_profile.specs.Strips.{Strip, strip_words}
+use Rattle.prem_profile.specs.Strips.{Strip, first_row, strip_words}
 use Rattle.prem_profile.specs.Grammar.{Entry, Position}
-use Rattle.prem_profile.specs.Callgrind.{first_line, is_nothing, lines_behind, name_text}
-use Rattle.prem_profile.specs.Entries.{LinesAddUp, entries_at, entries_sum, entry_at, machine_entries, machine_position, profile_entries, strip_position, strips_entries, switches_entries}
+use Rattle.prem_profile.specs.Callgrind.{CallsAt, first_line, is_nothing, lines_behind, name_text}
+use Rattle.prem_profile.specs.Entries.{LinesAddUp, calls_entry, entries_at, entries_sum, entry_at, machine_entries, machine_position, own_cost, profile_entries, row_entries, strip_position, strips_entries, switches_entries}
 
 -- ---- costs
 
@@ -44,19 +44,28 @@ nothing_is c e =
 
 sum_append : (xs ys : List Entry) → entries_sum (xs ++ ys) ≡ plus (entries_sum xs) (entries_sum ys)
 sum_append [] ys = sym (behind_nothing (entries_sum ys))
-sum_append (x ∷ xs) ys = ap (plus x.cost) (sum_append xs ys) ∙ grouped x.cost (entries_sum xs) (entries_sum ys)
+sum_append (x ∷ xs) ys = ap (plus (own_cost x.callee x.cost)) (sum_append xs ys) ∙ grouped (own_cost x.callee x.cost) (entries_sum xs) (entries_sum ys)
 
 entry_sum : (at : Position) (line : ℕ) (c : Cost) → entries_sum (entry_at at line c) ≡ c
 entry_sum at line c = by (is_nothing c) refl
   where
-    by : (b : Bool) → is_nothing c ≡ b → entries_sum (cond b [] (record { position = at; line = line; cost = c } ∷ [])) ≡ c
+    by : (b : Bool) → is_nothing c ≡ b → entries_sum (cond b [] (record { callee = None; position = at; line = line; cost = c } ∷ [])) ≡ c
     by true e = sym (nothing_is c e)
     by false e = with_nothing c
 
-lines_sum : (at : Position) (lines : List ℕ) (costs : List Cost) → entries_sum (entries_at at lines costs) ≡ costs_sum costs
-lines_sum at lines [] = refl
-lines_sum at lines (c ∷ costs) =
-    sum_append (entry_at at (first_line lines) c) (entries_at at (lines_behind lines) costs) ∙ ap₂ plus (entry_sum at (first_line lines) c) (lines_sum at (lines_behind lines) costs)
+calls_sum : (at : Position) (line count : ℕ) (o : Option CallsAt) → entries_sum (calls_entry at line count o) ≡ no_cost
+calls_sum at line count None = refl
+calls_sum at line count (Some k) = with_nothing no_cost
+
+row_sum : (at : Position) (o : Option CallsAt) (line : ℕ) (c : Cost) → entries_sum (row_entries at o line c) ≡ c
+row_sum at o line c =
+    sum_append (entry_at at line c) (calls_entry at line c.instructions o) ∙ ap₂ plus (entry_sum at line c) (calls_sum at line c.instructions o) ∙ with_nothing c
+
+lines_sum : (at : Position) (each : ℕ → Option CallsAt) (row : ℕ) (lines : List ℕ) (costs : List Cost) → entries_sum (entries_at at each row lines costs) ≡ costs_sum costs
+lines_sum at each row lines [] = refl
+lines_sum at each row lines (c ∷ costs) =
+    sum_append (row_entries at (each row) (first_line lines) c) (entries_at at each (row + 1) (lines_behind lines) costs)
+    ∙ ap₂ plus (row_sum at (each row) (first_line lines) c) (lines_sum at each (row + 1) (lines_behind lines) costs)
 
 -- ---- rows
 
@@ -70,12 +79,14 @@ rest_length zero m costs e = omega (arith, e)
 rest_length (suc n) m [] e = absurd (omega (arith, e))
 rest_length (suc n) m (c ∷ costs) e = rest_length n m costs (omega (arith, e))
 
-strips_sum : (sources : List Source) (ss : List Strip) (costs : List Cost) → length costs ≡ strip_words ss → entries_sum (strips_entries sources ss costs) ≡ costs_sum costs
-strips_sum sources [] [] e = refl
-strips_sum sources [] (c ∷ costs) e = absurd (omega (arith, e))
-strips_sum sources (s ∷ ss) costs e =
-    sum_append (entries_at (strip_position sources s) s.lines (take s.count costs)) (strips_entries sources ss (drop s.count costs))
-    ∙ ap₂ plus (lines_sum (strip_position sources s) s.lines (take s.count costs)) (strips_sum sources ss (drop s.count costs) (rest_length s.count (strip_words ss) costs e))
+strips_sum : (sources : List Source) (each : ℕ → Option CallsAt) (row : ℕ) (ss : List Strip) (costs : List Cost) → length costs ≡ strip_words ss →
+    entries_sum (strips_entries sources each row ss costs) ≡ costs_sum costs
+strips_sum sources each row [] [] e = refl
+strips_sum sources each row [] (c ∷ costs) e = absurd (omega (arith, e))
+strips_sum sources each row (s ∷ ss) costs e =
+    sum_append (entries_at (strip_position sources s) each row s.lines (take s.count costs)) (strips_entries sources each (row + s.count) ss (drop s.count costs))
+    ∙ ap₂ plus (lines_sum (strip_position sources s) each row s.lines (take s.count costs))
+    (strips_sum sources each (row + s.count) ss (drop s.count costs) (rest_length s.count (strip_words ss) costs e))
     ∙ front_and_rest s.count costs
 
 switches_sum : (ss : List Source) (costs : List Cost) → entries_sum (switches_entries ss costs) ≡ costs_sum (take (length ss) costs)
@@ -89,17 +100,18 @@ in_order : (a b c d : Cost) → plus (plus b (plus a c)) d ≡ plus a (plus b (p
 in_order a b c d = same (plus (plus b (plus a c)) d) (plus a (plus b (plus c d))) (omega arith) (omega arith) (omega arith) (omega arith)
 
 pub lines_add_up : LinesAddUp
-lines_add_up sources strips [] e = absurd (omega (arith, e))
-lines_add_up sources strips (a ∷ []) e = absurd (omega (arith, e))
-lines_add_up sources strips (a ∷ b ∷ costs) e =
+lines_add_up sources strips [] each e = absurd (omega (arith, e))
+lines_add_up sources strips (a ∷ []) each e = absurd (omega (arith, e))
+lines_add_up sources strips (a ∷ b ∷ costs) each e =
     let n = length sources in
+    let first = first_row n in
     let idle = machine_position (codes "[idle]") in
     let elsewhere = machine_position (codes "[elsewhere]") in
     let long : length costs ≡ n + strip_words strips = omega (arith, e) in
     let machine : entries_sum (machine_entries sources (a ∷ b ∷ costs)) ≡ plus b (plus a (costs_sum (take n costs))) =
     sum_append (entry_at idle 0 b) (entry_at elsewhere 0 a ++ switches_entries sources costs)
     ∙ ap₂ plus (entry_sum idle 0 b) (sum_append (entry_at elsewhere 0 a) (switches_entries sources costs) ∙ ap₂ plus (entry_sum elsewhere 0 a) (switches_sum sources costs)) in
-    let functions : entries_sum (strips_entries sources strips (drop n costs)) ≡ costs_sum (drop n costs) =
-    strips_sum sources strips (drop n costs) (rest_length n (strip_words strips) costs long) in
-    sum_append (machine_entries sources (a ∷ b ∷ costs)) (strips_entries sources strips (drop n costs)) ∙ ap₂ plus machine functions
+    let functions : entries_sum (strips_entries sources each first strips (drop n costs)) ≡ costs_sum (drop n costs) =
+    strips_sum sources each first strips (drop n costs) (rest_length n (strip_words strips) costs long) in
+    sum_append (machine_entries sources (a ∷ b ∷ costs)) (strips_entries sources each first strips (drop n costs)) ∙ ap₂ plus machine functions
     ∙ in_order a b (costs_sum (take n costs)) (costs_sum (drop n costs)) ∙ ap (λ c. plus a (plus b c)) (front_and_rest n costs)

@@ -2,7 +2,11 @@ pub mod LinesLemmas
 pub mod Executes
 pub mod Turns
 pub mod Booking
+pub mod Called
+pub mod Rooms
+pub mod Callees
 pub mod Profiled
+pub mod CalledRuns
 pub mod Tasks
 pub mod Reading
 pub mod Adding

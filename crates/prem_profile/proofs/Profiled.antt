@@ -59,7 +59,7 @@ over_by false None true last stop e h = refl
 over_by false None false true stop e h = let is : stop ≡ Limit = cc in absurd (cc)
 over_by false None false false stop e h = absurd (cc)
 
-over_is : (at : ℕ) (s : MachineState) (stop : Stop) → goes_on stop ≡ false → Some stop ≡ stop_of at s → is_over s ≡ true
+pub over_is : (at : ℕ) (s : MachineState) (stop : Stop) → goes_on stop ≡ false → Some stop ≡ stop_of at s → is_over s ≡ true
 over_is at s stop e h = over_by (is_finished s) s.trapped (is_full s) (s.now == at) stop e h
 
 -- ---- the run
@@ -79,6 +79,17 @@ all_at image input n = spent_in_all (rule_in (setup_of image)) (setup_of image) 
 abbrev pub row_at : (tasks : ℕ) → List ℕ → Image → RunInput → ℕ → ℕ → Cost
 row_at tasks words image input n = row_cost tasks words (rule_in (setup_of image)) (setup_of image) (items_of input.requests) n (start image input)
 
+pub first_now : (image : Image) (input : RunInput) → (start image input).now ≡ 0
+unfolding cycles_of
+first_now image input = refl
+
+-- of a run of no more than 2^61 cycles
+pub after_small : (image : Image) (input : RunInput) (n : ℕ) → n ≤ 2 ^ 61 → (after image input n).now ≤ 2 ^ 61
+after_small image input n le =
+    let first = first_now image input in
+    let end = cycles_within (rule_in (setup_of image)) (setup_of image) (items_of input.requests) n (start image input) in
+    omega (arith, first, end, le)
+
 -- what holds of the machine and the account behind each turn
 pub record IsProfiled (image : Image) (input : RunInput) (tasks : ℕ) (words : List ℕ) (rows limit at : ℕ) (stop : Stop) (m : Running) (home : Home) (total : Cost) (costs : List Cost) : Type 0 where
   pub within : at ≤ limit
@@ -89,10 +100,6 @@ pub record IsProfiled (image : Image) (input : RunInput) (tasks : ℕ) (words : 
   pub home_is : home ≡ home_at image input at
   pub total_is : total ≡ all_at image input at
   pub costs_are : costs ≡ each_row (row_at tasks words image input at) 0 rows
-
-pub first_now : (image : Image) (input : RunInput) → (start image input).now ≡ 0
-unfolding cycles_of
-first_now image input = refl
 
 nothing_first : (tasks : ℕ) (words : List ℕ) (image : Image) (input : RunInput) (row : ℕ) → row_at tasks words image input 0 row ≡ no_cost
 unfolding spent
@@ -181,10 +188,11 @@ module _ (image : Image) (input : RunInput) (tasks : ℕ) (words : List ℕ) (ro
       (subst (λ x. T (home_at image input at) x (state_of m')) (sym w.state)
       (subst (λ y. T (home_at image input at) s y) (sym (went_there m' to goes lower state)) (seen' (home_at image input at))))
 
-  pub turn_small : (m' : Running) (to : ℕ) (c : Cost) → goes_on stop ≡ true → at < to → to ≤ 2 ^ 61 → AreSeen (rule_in (setup_in m)) (setup_in m) (requests_in m) (to - at) (state_of m) →
+  -- it is of no more than 2^61 cycles
+  pub turn_cost : (m' : Running) (to : ℕ) (c : Cost) → goes_on stop ≡ true → at < to → to ≤ 2 ^ 61 → AreSeen (rule_in (setup_in m)) (setup_in m) (requests_in m) (to - at) (state_of m) →
       state_of m' ≡ cycles_of (rule_in (setup_in m)) (setup_in m) (requests_in m) (to - (state_of m).now) (state_of m) → c ≡ seen_cost (seen_of home (state_of m)) (state_of m') →
-      HasRoom total costs c
-  turn_small m' to c goes lower most seen state is =
+      IsSmall (2 ^ 61) c
+  turn_cost m' to c goes lower most seen state is =
       let p = setup_of image in
       let q = items_of input.requests in
       let rule = rule_in p in
@@ -196,7 +204,13 @@ module _ (image : Image) (input : RunInput) (tasks : ℕ) (words : List ℕ) (ro
       let whole : IsSmall (t.now - s.now) (seen_cost (seen_of home (state_of m)) (state_of m')) =
       subst (IsSmall (t.now - s.now)) (turn.spent_is (λ h. true)) (spent_small (λ h. true) rule p q (home_at image input at) (to - at) s) in
       let less : t.now - s.now ≤ 2 ^ 61 = omega (arith, end, now, lower, most) in
-      turn_fits at c (omega (arith, now, lower, most)) (subst (IsSmall (2 ^ 61)) (sym is) (small_within (t.now - s.now) (2 ^ 61) (seen_cost (seen_of home (state_of m)) (state_of m')) less whole))
+      subst (IsSmall (2 ^ 61)) (sym is) (small_within (t.now - s.now) (2 ^ 61) (seen_cost (seen_of home (state_of m)) (state_of m')) less whole)
+
+  pub turn_small : (m' : Running) (to : ℕ) (c : Cost) → goes_on stop ≡ true → at < to → to ≤ 2 ^ 61 → AreSeen (rule_in (setup_in m)) (setup_in m) (requests_in m) (to - at) (state_of m) →
+      state_of m' ≡ cycles_of (rule_in (setup_in m)) (setup_in m) (requests_in m) (to - (state_of m).now) (state_of m) → c ≡ seen_cost (seen_of home (state_of m)) (state_of m') →
+      HasRoom total costs c
+  turn_small m' to c goes lower most seen state is =
+      turn_fits at c (after_small image input at (omega (arith, lower, most))) (turn_cost m' to c goes lower most seen state is)
 
   pub next_profiled : (stop' : Stop) (m' : Running) (home' : Home) (total' : Cost) (costs' : List Cost) (to : ℕ) → goes_on stop ≡ true → at < to → to ≤ limit →
       AreSeen (rule_in (setup_in m)) (setup_in m) (requests_in m) (to - at) (state_of m) →

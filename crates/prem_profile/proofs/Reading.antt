@@ -2,16 +2,16 @@
 use Rattle.std.specs.Prelude.{◌==◌, ◌||◌, ◌&&◌, not, decimal, codes, slice_index_or}
 use Rattle.std.specs.Fmt.{digits}
 use Rattle.std.specs.List.{list_all}
-use Rattle.std.proofs.Common.{◌≡◌, ℕ, zero, suc, ◌+◌, List, [], ◌∷◌, ◌++◌, Bool, true, false, cond, length, map, take, drop, refl, ap, ap₂, sym, ◌∙◌, subst, arith, append_assoc, append-nil}
+use Rattle.std.proofs.Common.{◌≡◌, ℕ, zero, suc, ◌+◌, List, [], ◌∷◌, ◌++◌, Option, Some, None, Bool, true, false, cond, length, map, take, drop, refl, ap, ap₂, sym, ◌∙◌, subst, arith, append_assoc, append-nil}
 use Rattle.prem_profile.specs.declared.cost.Cost.{Cost}
 use Rattle.prem_profile.specs.declared.callgrind.Source.{Source}
 use Rattle.prem_profile.specs.Spent.{no_cost}
-use Rattle.prem_profile.specs.Strips.{Strip}
-use Rattle.prem_profile.specs.Grammar.{Entry, IsProfile, Position, Tells, cost, cost_text, empty, file, function, is_in_line, is_in_name, nothing, nowhere, object}
-use Rattle.prem_profile.specs.Callgrind.{cost_line, file_byte, file_line, file_text, first_line, function_head, function_line, head_text, is_nothing, lines_behind, lines_text}
-use Rattle.prem_profile.specs.Callgrind.{machine_head, machine_text, name_byte, name_text, nowhere_head, object_line, opening, profile_text, source_at, strip_text, strips_text}
+use Rattle.prem_profile.specs.Strips.{Strip, first_row}
+use Rattle.prem_profile.specs.Grammar.{Entry, IsProfile, Position, Tells, calls, cost, cost_text, empty, file, function, is_in_line, is_in_name, nothing, nowhere, object}
+use Rattle.prem_profile.specs.Callgrind.{CallsAt, callee_lines, calls_text, cost_line, file_byte, file_line, file_text, first_line, function_head, function_line, head_text, is_nothing, lines_behind, lines_text}
+use Rattle.prem_profile.specs.Callgrind.{machine_head, machine_text, name_byte, name_text, nowhere_head, object_line, opening, profile_text, row_text, source_at, spent_line, strip_text, strips_text}
 use Rattle.prem_profile.specs.Callgrind.{switch_line, switch_opening, switch_text, switches_text, total_text}
-use Rattle.prem_profile.specs.Entries.{ProfilesAreRead, entries_at, entry_at, machine_entries, machine_position, profile_entries, strip_position, strips_entries, switches_entries}
+use Rattle.prem_profile.specs.Entries.{ProfilesAreRead, calls_entry, entries_at, entry_at, machine_entries, machine_position, profile_entries, row_entries, strip_position, strips_entries, switches_entries}
 
 -- ---- names
 
@@ -65,16 +65,42 @@ three a b c rest = append_assoc a (b ++ c) rest ∙ ap (λ l. a ++ l) (append_as
 cost_adds : (files : ℕ → List ℕ) (at : Position) (line : ℕ) (c : Cost) → Adds files at (cost_line line c) (entry_at at line c) at
 cost_adds files at line c = by (is_nothing c)
   where
-    by : (b : Bool) → Adds files at (cond b [] (decimal line ++ (codes " " ++ (cost_text c ++ codes "\n")))) (cond b [] (record { position = at; line = line; cost = c } ∷ [])) at
+    by : (b : Bool) → Adds files at (cond b [] (decimal line ++ (codes " " ++ (cost_text c ++ codes "\n")))) (cond b [] (record { callee = None; position = at; line = line; cost = c } ∷ [])) at
     by true = adds_none files at
     by false = λ rest more t.
-        subst (λ (text : List ℕ). Tells files at (record { position = at; line = line; cost = c } ∷ more) text) (sym (four (decimal line) (codes " ") (cost_text c) (codes "\n") rest)) (cost line c t)
+        subst (λ (text : List ℕ). Tells files at (record { callee = None; position = at; line = line; cost = c } ∷ more) text) (sym (four (decimal line) (codes " ") (cost_text c) (codes "\n") rest)) (cost line c t)
 
-lines_adds : (files : ℕ → List ℕ) (at : Position) (lines : List ℕ) (costs : List Cost) → Adds files at (lines_text lines costs) (entries_at at lines costs) at
-lines_adds files at lines [] = adds_none files at
-lines_adds files at lines (c ∷ costs) =
-    adds_then files at at at (cost_line (first_line lines) c) (lines_text (lines_behind lines) costs) (entry_at at (first_line lines) c) (entries_at at (lines_behind lines) costs)
-    (cost_adds files at (first_line lines) c) (lines_adds files at (lines_behind lines) costs)
+-- the lines of a call, with all that stands behind
+called : (a n b c d e f l g k h rest : List ℕ) →
+    ((a ++ (n ++ (b ++ (c ++ (d ++ (e ++ f)))))) ++ (l ++ (g ++ (k ++ h)))) ++ rest ≡ a ++ (n ++ (b ++ (c ++ (d ++ (e ++ (f ++ (l ++ (g ++ (k ++ (h ++ rest))))))))))
+called a n b c d e f l g k h rest =
+    append_assoc (a ++ (n ++ (b ++ (c ++ (d ++ (e ++ f)))))) (l ++ (g ++ (k ++ h))) rest ∙ ap (λ t. (a ++ (n ++ (b ++ (c ++ (d ++ (e ++ f)))))) ++ t) (four l g k h rest)
+    ∙ append_assoc a (n ++ (b ++ (c ++ (d ++ (e ++ f))))) (l ++ (g ++ (k ++ (h ++ rest))))
+    ∙ ap (λ t. a ++ t) (append_assoc n (b ++ (c ++ (d ++ (e ++ f)))) (l ++ (g ++ (k ++ (h ++ rest))))
+    ∙ ap (λ t. n ++ t) (append_assoc b (c ++ (d ++ (e ++ f))) (l ++ (g ++ (k ++ (h ++ rest)))) ∙ ap (λ t. b ++ t) (four c d e f (l ++ (g ++ (k ++ (h ++ rest)))))))
+
+calls_add : (files : ℕ → List ℕ) (at : Position) (line count : ℕ) (o : Option CallsAt) → Adds files at (calls_text line count o) (calls_entry at line count o) at
+unfolding callee_lines
+calls_add files at line count None = adds_none files at
+calls_add files at line count (Some k) = λ rest more t.
+    let name = name_text k.callee.name in
+    let to = first_line k.callee.lines in
+    subst (λ (text : List ℕ). Tells files at (calls_entry at line count (Some k) ++ more) text)
+    (sym (called (codes "cfn=") name (codes "\ncalls=") (decimal count) (codes " ") (decimal to) (codes "\n") (decimal line) (codes " ") (cost_text k.cost) (codes "\n") rest))
+    (calls (record { function = name; count = count; line = to }) line k.cost (in_names k.callee.name) t)
+
+row_adds : (files : ℕ → List ℕ) (at : Position) (o : Option CallsAt) (line : ℕ) (c : Cost) → Adds files at (row_text o line c) (row_entries at o line c) at
+row_adds files at o line c =
+    adds_then files at at at (cost_line line c) (calls_text line c.instructions o) (entry_at at line c) (calls_entry at line c.instructions o) (cost_adds files at line c)
+    (calls_add files at line c.instructions o)
+
+lines_adds : (files : ℕ → List ℕ) (at : Position) (each : ℕ → Option CallsAt) (row : ℕ) (lines : List ℕ) (costs : List Cost) →
+    Adds files at (lines_text each row lines costs) (entries_at at each row lines costs) at
+lines_adds files at each row lines [] = adds_none files at
+lines_adds files at each row lines (c ∷ costs) =
+    adds_then files at at at (row_text (each row) (first_line lines) c) (lines_text each (row + 1) (lines_behind lines) costs) (row_entries at (each row) (first_line lines) c)
+    (entries_at at each (row + 1) (lines_behind lines) costs)
+    (row_adds files at (each row) (first_line lines) c) (lines_adds files at each (row + 1) (lines_behind lines) costs)
 
 -- ---- functions
 
@@ -130,25 +156,26 @@ files_of sources (suc k) = file_text (source_at sources k).file
 file_of : (sources : List Source) (k : ℕ) → files_of sources (k + 1) ≡ file_text (source_at sources k).file
 file_of sources k = let e : k + 1 ≡ suc k = omega arith in ap (files_of sources) e
 
-strip_adds : (sources : List Source) (at : Position) (s : Strip) (costs : List Cost) →
-    Adds (files_of sources) at (strip_text sources s costs) (entries_at (strip_position sources s) s.lines costs) (strip_position sources s)
-strip_adds sources at s costs =
-    adds_then (files_of sources) at (strip_position sources s) (strip_position sources s) (function_head (source_at sources s.task) (s.task + 1) s.name) (lines_text s.lines costs) []
-    (entries_at (strip_position sources s) s.lines costs) (head_adds (files_of sources) at (source_at sources s.task) (s.task + 1) s.name (file_of sources s.task))
-    (lines_adds (files_of sources) (strip_position sources s) s.lines costs)
+strip_adds : (sources : List Source) (each : ℕ → Option CallsAt) (row : ℕ) (at : Position) (s : Strip) (costs : List Cost) →
+    Adds (files_of sources) at (strip_text sources each row s costs) (entries_at (strip_position sources s) each row s.lines costs) (strip_position sources s)
+strip_adds sources each row at s costs =
+    adds_then (files_of sources) at (strip_position sources s) (strip_position sources s) (function_head (source_at sources s.task) (s.task + 1) s.name) (lines_text each row s.lines costs) []
+    (entries_at (strip_position sources s) each row s.lines costs) (head_adds (files_of sources) at (source_at sources s.task) (s.task + 1) s.name (file_of sources s.task))
+    (lines_adds (files_of sources) (strip_position sources s) each row s.lines costs)
 
 -- the position behind strips
 abbrev last_strip : List Source → Position → List Strip → Position
 last_strip sources at [] = at
 last_strip sources at (s ∷ ss) = last_strip sources (strip_position sources s) ss
 
-strips_add : (sources : List Source) (at : Position) (ss : List Strip) (costs : List Cost) →
-    Adds (files_of sources) at (strips_text sources ss costs) (strips_entries sources ss costs) (last_strip sources at ss)
-strips_add sources at [] costs = adds_none (files_of sources) at
-strips_add sources at (s ∷ ss) costs =
-    adds_then (files_of sources) at (strip_position sources s) (last_strip sources (strip_position sources s) ss) (strip_text sources s (take s.count costs))
-    (strips_text sources ss (drop s.count costs)) (entries_at (strip_position sources s) s.lines (take s.count costs)) (strips_entries sources ss (drop s.count costs))
-    (strip_adds sources at s (take s.count costs)) (strips_add sources (strip_position sources s) ss (drop s.count costs))
+strips_add : (sources : List Source) (each : ℕ → Option CallsAt) (row : ℕ) (at : Position) (ss : List Strip) (costs : List Cost) →
+    Adds (files_of sources) at (strips_text sources each row ss costs) (strips_entries sources each row ss costs) (last_strip sources at ss)
+strips_add sources each row at [] costs = adds_none (files_of sources) at
+strips_add sources each row at (s ∷ ss) costs =
+    adds_then (files_of sources) at (strip_position sources s) (last_strip sources (strip_position sources s) ss) (strip_text sources each row s (take s.count costs))
+    (strips_text sources each (row + s.count) ss (drop s.count costs)) (entries_at (strip_position sources s) each row s.lines (take s.count costs))
+    (strips_entries sources each (row + s.count) ss (drop s.count costs))
+    (strip_adds sources each row at s (take s.count costs)) (strips_add sources each (row + s.count) (strip_position sources s) ss (drop s.count costs))
 
 -- ---- what has no line
 
@@ -223,16 +250,17 @@ head_is total body m s e =
     whole head (cost_text total) (codes "\n") m s end ∙ ap (λ b. head ++ (cost_text total ++ (codes "\n" ++ (b ++ end)))) (sym e)
 
 pub profiles_are_read : ProfilesAreRead
-profiles_are_read sources strips total costs =
+profiles_are_read sources strips total costs each =
+    let first = first_row (length sources) in
     let rows = drop (length sources) (drop 2 costs) in
     let between = machine_position (last_switch (codes "[elsewhere]") sources (drop 2 costs)) in
-    let text = strips_text sources strips rows in
-    let told = strips_entries sources strips rows in
+    let text = strips_text sources each first strips rows in
+    let told = strips_entries sources each first strips rows in
     record {
       files = files_of sources;
       body = machine_text sources costs ++ (text ++ codes "\n");
       tells =
           machine_adds sources costs (text ++ codes "\n") told
-          (subst (λ (entries : List Entry). Tells (files_of sources) between entries (text ++ codes "\n")) (append-nil told) (strips_add sources between strips rows (codes "\n") [] (empty nothing)));
+          (subst (λ (entries : List Entry). Tells (files_of sources) between entries (text ++ codes "\n")) (append-nil told) (strips_add sources each first between strips rows (codes "\n") [] (empty nothing)));
       is = head_is total (machine_text sources costs ++ (text ++ codes "\n")) (machine_text sources costs) text refl;
     }

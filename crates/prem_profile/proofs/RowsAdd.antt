@@ -48,7 +48,7 @@ strips_below n words row (s ∷ ss) le below =
 is_less : (m n : ℕ) → nat_lt m n ≡ true → m < n
 is_less m n e = grind (arith, nat_tests)
 
-switch_below : (tasks k n : ℕ) → 2 + tasks ≤ n → switch_row tasks k < n
+pub switch_below : (tasks k n : ℕ) → 2 + tasks ≤ n → switch_row tasks k < n
 switch_below tasks k n le = by (nat_lt k tasks) refl
   where
     by : (t : Bool) → nat_lt k tasks ≡ t → cond t (2 + k) 0 < n
@@ -120,10 +120,10 @@ rows_add_up tasks size strips rule p requests n s = rows_sum tasks (rows_of task
 -- ---- a worked table of rows: of two tasks with two words of code from 4 on and one at 20, in a memory of eight words
 
 abbrev first_strip : Strip
-first_strip = record { task = 0; name = []; at = 4; count = 2; lines = 7 ∷ 8 ∷ [] }
+first_strip = record { task = 0; name = []; called = true; at = 4; count = 2; lines = 7 ∷ 8 ∷ [] }
 
 abbrev second_strip : Strip
-second_strip = record { task = 1; name = []; at = 20; count = 1; lines = 9 ∷ [] }
+second_strip = record { task = 1; name = []; called = false; at = 20; count = 1; lines = 9 ∷ [] }
 
 rows_worked : rows_of 2 8 (first_strip ∷ second_strip ∷ []) ≡ 0 ∷ 4 ∷ 5 ∷ 0 ∷ 0 ∷ 6 ∷ 0 ∷ 0 ∷ []
 rows_worked = refl

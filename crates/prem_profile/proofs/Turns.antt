@@ -32,17 +32,17 @@ same_cost a b instructions cycles misses backs = λ i. record { instructions = i
 pub plus_none : (a : Cost) → plus a no_cost ≡ a
 plus_none a = same_cost (plus a no_cost) a (omega arith) (omega arith) (omega arith) (omega arith)
 
-none_plus : (a : Cost) → plus no_cost a ≡ a
+pub none_plus : (a : Cost) → plus no_cost a ≡ a
 none_plus a = same_cost (plus no_cost a) a (omega arith) (omega arith) (omega arith) (omega arith)
 
-plus_assoc : (a b c : Cost) → plus (plus a b) c ≡ plus a (plus b c)
+pub plus_assoc : (a b c : Cost) → plus (plus a b) c ≡ plus a (plus b c)
 plus_assoc a b c = same_cost (plus (plus a b) c) (plus a (plus b c)) (omega arith) (omega arith) (omega arith) (omega arith)
 
-where_none : (b : Bool) → where_so b no_cost ≡ no_cost
+pub where_none : (b : Bool) → where_so b no_cost ≡ no_cost
 where_none true = refl
 where_none false = refl
 
-where_plus : (b : Bool) (a c : Cost) → plus (where_so b a) (where_so b c) ≡ where_so b (plus a c)
+pub where_plus : (b : Bool) (a c : Cost) → plus (where_so b a) (where_so b c) ≡ where_so b (plus a c)
 where_plus true a c = refl
 where_plus false a c = none_plus no_cost
 
@@ -97,10 +97,10 @@ booked is_so rule p requests before m n s home cost t = record {
 
 -- ---- where a run is over
 
-over_none : (rule : ReplacementRule) (p : Setup) (requests : List Request) (s : MachineState) → is_over s ≡ true → coming_step rule p requests s ≡ None
+pub over_none : (rule : ReplacementRule) (p : Setup) (requests : List Request) (s : MachineState) → is_over s ≡ true → coming_step rule p requests s ≡ None
 over_none rule p requests s h = ap (λ b. cond b None (step_with rule p (bus_at (arrivals_at requests s).gates s) s)) h
 
-over_cost : (rule : ReplacementRule) (p : Setup) (requests : List Request) (s : MachineState) → is_over s ≡ true → cycle_cost rule p requests s ≡ no_cost
+pub over_cost : (rule : ReplacementRule) (p : Setup) (requests : List Request) (s : MachineState) → is_over s ≡ true → cycle_cost rule p requests s ≡ no_cost
 over_cost rule p requests s h =
     let same : (step_of rule p requests s).now ≡ s.now = ap (λ (x : MachineState). x.now) (step_of-stays rule p requests s h) in
     let none : (step_of rule p requests s).now - s.now ≡ 0 = omega (arith, same) in
@@ -175,11 +175,18 @@ seen_by (Some st) before s t h =
       cost_is = same_cost (cost_with (Some st) (t.now - s.now)) (seen_cost (seen_of before s) t) (sym (ap (λ b. cond b 1 0) one)) refl (omega (arith, misses)) (omega (arith, backs));
     }
 
+first_home : (rule : ReplacementRule) (p : Setup) (requests : List Request) (s : MachineState) (before home : Home) → home_of rule p requests s before ≡ home → (m : ℕ) → m < 1 →
+    home_after rule p requests before (suc m) s ≡ home
+unfolding home_after cycles_of
+first_home rule p requests s before home is zero lt = is
+first_home rule p requests s before home is (suc m) lt = absurd (omega (arith, lt))
+
 one_seen : (rule : ReplacementRule) (p : Setup) (requests : List Request) (s : MachineState) → AreSeen rule p requests 1 s
 unfolding home_after spent cycles_of
 one_seen rule p requests s before =
     let h = seen_by (coming_step rule p requests s) before s (step_of rule p requests s) (step_told rule p requests s) in
     record {
+      homes = first_home rule p requests s before (seen_home (seen_of before s) (step_of rule p requests s)) h.home_is;
       home_is = h.home_is;
       spent_is = λ is_so. none_plus (where_so (is_so (home_of rule p requests s before)) (cycle_cost rule p requests s)) ∙ ap₂ (λ x c. where_so (is_so x) c) h.home_is h.cost_is;
     }
@@ -339,6 +346,7 @@ dull_seen rule p requests n s point dull before =
     let cost : cost_with None (t.now - s.now) ≡ seen_cost (seen_of before s) t =
     same_cost (cost_with None (t.now - s.now)) (seen_cost (seen_of before s) t) (sym (ap (λ b. cond b 1 0) none)) refl (omega (arith, misses)) (omega (arith, backs)) in
     record {
+      homes = λ m lt. dull_home rule p requests before (suc n) m s lt point dull ∙ home;
       home_is = dull_home rule p requests before (suc n) n s (omega arith) point dull ∙ home;
       spent_is = λ is_so. dull_spent is_so rule p requests before (suc n) (suc n) s (omega arith) point dull ∙ ap₂ (λ h c. where_so (is_so h) c) home cost;
     }
@@ -391,11 +399,11 @@ cost_small (Some st) s t h =
     let back = backs_few st.touches in
     record { instructions = omega (arith, went); misses = omega (arith, went, few, all); backs = omega (arith, went, few, back); within = omega arith }
 
-where_small : (b : Bool) (cycles : ℕ) (c : Cost) → IsSmall cycles c → IsSmall cycles (where_so b c)
+pub where_small : (b : Bool) (cycles : ℕ) (c : Cost) → IsSmall cycles c → IsSmall cycles (where_so b c)
 where_small true cycles c h = h
 where_small false cycles c h = record { instructions = omega arith; misses = omega arith; backs = omega arith; within = omega arith }
 
-plus_small : (m n : ℕ) (a b : Cost) → IsSmall m a → IsSmall n b → IsSmall (m + n) (plus a b)
+pub plus_small : (m n : ℕ) (a b : Cost) → IsSmall m a → IsSmall n b → IsSmall (m + n) (plus a b)
 plus_small m n a b h k =
     let i = h.instructions in
     let i' = k.instructions in
@@ -406,6 +414,12 @@ plus_small m n a b h k =
     let z = h.within in
     let z' = k.within in
     record { instructions = omega (arith, i, i'); misses = omega (arith, x, x'); backs = omega (arith, y, y'); within = omega (arith, z, z') }
+
+pub cycle_small : (rule : ReplacementRule) (p : Setup) (requests : List Request) (s : MachineState) → IsSmall ((step_of rule p requests s).now - s.now) (cycle_cost rule p requests s)
+cycle_small rule p requests s = cost_small (coming_step rule p requests s) s (step_of rule p requests s) (step_told rule p requests s)
+
+pub step_later : (rule : ReplacementRule) (p : Setup) (requests : List Request) (s : MachineState) → s.now ≤ (step_of rule p requests s).now
+step_later rule p requests s = (step_told rule p requests s).from
 
 pub cycles_later : (rule : ReplacementRule) (p : Setup) (requests : List Request) (n : ℕ) (s : MachineState) → s.now ≤ (cycles_of rule p requests n s).now
 unfolding cycles_of

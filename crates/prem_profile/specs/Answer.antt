@@ -24,10 +24,11 @@ use Rattle.prem_profile.specs.declared.home.Home.TheVariants.{Rest}
 use Rattle.prem_profile.specs.Spent.{spent_in_all}
 use Rattle.prem_profile.specs.Account.{each_row, row_cost}
 use Rattle.prem_profile.specs.Strips.{Strip, first_row, rows_of, strip_words}
+use Rattle.prem_profile.specs.Calls.{call_cost, functions_of, run_calls}
 use Rattle.prem_profile.specs.Sets.{set_lines, strips_of}
 use Rattle.prem_profile.specs.Totals.{IsTotal}
 use Rattle.prem_profile.specs.Grammar.{Entry, IsProfile}
-use Rattle.prem_profile.specs.Callgrind.{profile_text}
+use Rattle.prem_profile.specs.Callgrind.{calls_at, profile_text}
 use Rattle.prem_profile.specs.Entries.{entries_sum}
 use Rattle.prem_profile.specs.Words.{ProfileAsked, RunAsked, asked_of, of_run}
 
@@ -38,8 +39,12 @@ abbrev pub image_profile : List Source → List Strip → ImageText → RunText 
 image_profile sources strips i input limit =
     let tasks = length sources in
     let words = rows_of tasks (length i.content / 4) strips in
+    let rows = first_row tasks + strip_words strips in
+    let functions = functions_of tasks strips in
     profile_text sources strips (spent_in_all (rule_of i.plant.policy) (image_setup i) input.requests Rest limit (state_at i input 0))
-    (each_row (row_cost tasks words (rule_of i.plant.policy) (image_setup i) input.requests limit (state_at i input 0)) 0 (first_row tasks + strip_words strips))
+    (each_row (row_cost tasks words (rule_of i.plant.policy) (image_setup i) input.requests limit (state_at i input 0)) 0 rows)
+    (calls_at strips (run_calls functions tasks words (length strips) rows (rule_of i.plant.policy) (image_setup i) input.requests limit (state_at i input 0)).callees
+    (each_row (call_cost functions tasks words (length strips) rows (rule_of i.plant.policy) (image_setup i) input.requests limit (state_at i input 0)) 0 rows))
 
 -- ---- the answer
 

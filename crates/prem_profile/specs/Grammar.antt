@@ -1,6 +1,6 @@
 -- The grammar of profiles in callgrind's format, version 1 ("Callgrind Format Specification" in Valgrind's documentation), as far as profiles of
--- runs need it: one part, positions by line, no calls and no jumps. A relation on texts: none of it says how one is made.
-use Rattle.std.specs.Prelude.{◌≡◌, ℕ, ◌==◌, ◌||◌, not, Bool, true, List, [], ◌∷◌, ◌++◌, codes, decimal}
+-- runs need it: one part, positions by line, calls of functions of the same object and file, no jumps. A relation on texts: none of it says how one is made.
+use Rattle.std.specs.Prelude.{◌≡◌, ℕ, ◌==◌, ◌||◌, not, Bool, true, List, [], ◌∷◌, ◌++◌, Option, None, Some, codes, decimal}
 use Rattle.std.specs.List.{list_all}
 use Rattle.prem_profile.specs.declared.cost.Cost.{Cost}
 
@@ -25,8 +25,15 @@ pub record Position : Type 0 where
 abbrev pub nowhere : Position
 nowhere = record { object = []; file = []; function = [] }
 
--- what is spent at a line of a function
+-- a function that is called so often, and the line at which it begins
+pub record Callee : Type 0 where
+  pub function : List ℕ
+  pub count : ℕ
+  pub line : ℕ
+
+-- what is spent at a line of a function: by itself, or in calls of another function
 pub record Entry : Type 0 where
+  pub callee : Option Callee
   pub position : Position
   pub line : ℕ
   pub cost : Cost
@@ -49,7 +56,11 @@ pub data Tells : (files : ℕ → List ℕ) → Position → List Entry → List
       Tells files (record { object = at.object; file = at.file; function = name }) entries rest →
       Tells files at entries (codes "fn=" ++ (name ++ (codes "\n" ++ rest)))
   cost : {files : ℕ → List ℕ} {at : Position} {entries : List Entry} {rest : List ℕ} (line : ℕ) (c : Cost) → Tells files at entries rest →
-      Tells files at (record { position = at; line = line; cost = c } ∷ entries) (decimal line ++ (codes " " ++ (cost_text c ++ (codes "\n" ++ rest))))
+      Tells files at (record { callee = None; position = at; line = line; cost = c } ∷ entries) (decimal line ++ (codes " " ++ (cost_text c ++ (codes "\n" ++ rest))))
+  calls : {files : ℕ → List ℕ} {at : Position} {entries : List Entry} {rest : List ℕ} (callee : Callee) (line : ℕ) (c : Cost) → list_all is_in_name callee.function ≡ true →
+      Tells files at entries rest →
+      Tells files at (record { callee = Some callee; position = at; line = line; cost = c } ∷ entries)
+      (codes "cfn=" ++ (callee.function ++ (codes "\ncalls=" ++ (decimal callee.count ++ (codes " " ++ (decimal callee.line ++ (codes "\n" ++ (decimal line ++ (codes " " ++ (cost_text c ++ (codes "\n" ++ rest)))))))))))
 
 -- ---- profiles
 

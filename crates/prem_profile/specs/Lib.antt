@@ -5,6 +5,7 @@ pub mod Issuer
 pub mod Turn
 pub mod Account
 pub mod Strips
+pub mod Calls
 pub mod Grammar
 pub mod Callgrind
 pub mod Entries

@@ -32,6 +32,15 @@ has_code (Global g) = false
 has_code Stack = false
 has_code (Area d) = false
 
+-- whether it is called: a start isn't
+abbrev pub is_called : PartKind → Bool
+is_called Start = false
+is_called (Code f) = true
+is_called (Stub f) = true
+is_called (Global g) = false
+is_called Stack = false
+is_called (Area d) = false
+
 -- what the words of a part with code are told as: a name in brackets is none of the source
 abbrev pub told_as : PartKind → Text → Text
 told_as Start name = codes "[start]"
@@ -46,6 +55,7 @@ abbrev pub strip_at : TaskLines → PartSize → Text → (at : ℕ) → Strip
 strip_at task part name at = record {
   task = part.task;
   name = told_as part.kind name;
+  called = is_called part.kind;
   at = at;
   count = part.size / 4;
   lines = part_lines task part.kind (part.size / 4);

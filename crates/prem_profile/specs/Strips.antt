@@ -1,17 +1,18 @@
 -- The words of code of a compiled set, strip by strip, each with its line, and the rows in which they are booked.
-use Rattle.std.specs.Prelude.{ℕ, zero, suc, ◌+◌, ◌/◌, List, [], ◌∷◌, replicate, slice_set}
+use Rattle.std.specs.Prelude.{Bool, ℕ, zero, suc, ◌+◌, ◌/◌, List, [], ◌∷◌, replicate, slice_set}
 use Rattle.prem_profile.specs.declared.strip.Strip.{Strip as StripTree}
 
--- so many words from an address on, of a function of a task, with the line of each
+-- so many words from an address on, of a function of a task, with the line of each; of a function that is called, or of a start
 pub record Strip : Type 0 where
   pub task : ℕ
   pub name : List ℕ
+  pub called : Bool
   pub at : ℕ
   pub count : ℕ
   pub lines : List ℕ
 
 abbrev pub strip_of : StripTree → Strip
-strip_of s = record { task = s.task; name = s.name.items; at = s.at; count = s.count; lines = s.lines.items }
+strip_of s = record { task = s.task; name = s.name.items; called = s.called; at = s.at; count = s.count; lines = s.lines.items }
 
 -- the rows of so many words from a place on
 abbrev pub set_rows : List ℕ → (place row count : ℕ) → List ℕ

@@ -1,5 +1,5 @@
 -- What is seen of some cycles of a run at their ends: where they are booked, and what they cost.
-use Rattle.std.specs.Prelude.{◌≡◌, ℕ, ◌-◌, ◌||◌, nat_lt, Bool, true, false, if◌then◌else◌, List}
+use Rattle.std.specs.Prelude.{◌≡◌, ◌<◌, ℕ, suc, ◌-◌, ◌||◌, nat_lt, Bool, true, false, if◌then◌else◌, List}
 use Rattle.prem_lru.specs.Entries.{ReplacementRule}
 use Rattle.prem_gate.specs.declared.request.Request.{Request}
 use Rattle.prem_cycle.specs.declared.state.Mode.{Mode}
@@ -47,6 +47,7 @@ seen_cost b t = record {
 
 -- n cycles from a state, behind one with this home, are all booked at one home, and cost so much
 pub record IsTurn (rule : ReplacementRule) (p : Setup) (requests : List Request) (before : Home) (n : ℕ) (s : MachineState) (home : Home) (cost : Cost) : Type 0 where
+  pub homes : (m : ℕ) → m < n → home_after rule p requests before (suc m) s ≡ home
   pub home_is : home_after rule p requests before n s ≡ home
   pub spent_is : (is_so : Home → Bool) → spent is_so rule p requests before n s ≡ where_so (is_so home) cost
 

@@ -36,7 +36,7 @@ fn word_row(words: &[usize], pc: u32) -> usize
 }
 
 /// The row of a home.
-fn row_of(table: &RowTable, home: Home) -> usize
+pub fn row_of(table: &RowTable, home: Home) -> usize
     ensures { result ≡ row_of table.now.tasks table.now.words.items home }
 {
     match home {
@@ -100,14 +100,14 @@ fn book_in(costs: &mut Vec<Cost>, row: usize, cost: Cost)
     set_cost(costs, row, sum);
 }
 
-/// Books a cost at a home.
-pub fn book(account: &mut Account, table: &RowTable, home: Home, cost: Cost)
+/// Books a cost at a home, in its row.
+pub fn book(account: &mut Account, home: Home, row: usize, cost: Cost)
     requires { HasRoom account.old.total account.old.costs.items cost }
     ensures home { account.new.home ≡ home }
     ensures total { account.new.total ≡ plus account.old.total cost }
-    ensures costs { account.new.costs.items ≡ with_cost account.old.costs.items (row_of table.now.tasks table.now.words.items home) cost }
+    ensures costs { account.new.costs.items ≡ with_cost account.old.costs.items row cost }
 {
     account.home = home;
     account.total = plus(account.total, cost);
-    book_in(&mut account.costs, row_of(table, home), cost);
+    book_in(&mut account.costs, row, cost);
 }

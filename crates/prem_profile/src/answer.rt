@@ -14,7 +14,8 @@ ghost use Rattle.prem_profile.specs.Words.{profile_asked, run_asked};
 ghost use Rattle.prem_profile.specs.Answer.{image_profile, profile_stages, profile_tells, run_stages, sources_of};
 
 use crate::account::RowTable;
-use crate::callgrind::{Source, profile_text};
+use crate::callgrind::{Source, Told, profile_text};
+use crate::calls::functions_of;
 use crate::strip::{Rows, Strip, rows_from};
 use crate::strips::{set_lines, strips_of};
 use crate::tracing::profile;
@@ -64,8 +65,14 @@ fn image_profile<P: Policy>(
     let Rows { words, costs } = rows_from(alloc, first_row(sources), size, strips)?;
     let tasks = sources.len();
     let table = RowTable { tasks, words };
-    let account = profile::<P>(alloc, image, input, &table, costs, limit)?;
-    let text = profile_text(alloc, sources, strips, account.total, &account.costs)?;
+    let functions = functions_of(alloc, first_row(sources), strips)?;
+    let traced = profile::<P>(alloc, image, input, &table, &functions, costs, limit)?;
+    let told = Told {
+        sources,
+        strips,
+        calls: &traced.calls,
+    };
+    let text = profile_text(alloc, told, traced.account.total, &traced.account.costs)?;
     Ok(text)
 }
 

@@ -1,11 +1,13 @@
 // A profile in callgrind's format, version 1 (the specification is a part of Valgrind's technical documentation).
-ghost use Rattle.std.specs.Prelude.{◌≡◌, ◌+◌, ◌≤◌, ◌++◌, List, [], ◌∷◌, decimal, drop, length, map, take, slice_index_or, OnOk, IfOk, IfSome, IsNone};
+ghost use Rattle.std.specs.Prelude.{◌≡◌, ◌+◌, ◌<◌, ◌≤◌, ◌^◌, ◌++◌, List, [], ◌∷◌, codes, decimal, drop, length, map, take, slice_get, slice_index_or, OnOk, IfOk, IfSome, IsNone, Some, None};
 ghost use Rattle.prem_profile.specs.Spent.{no_cost};
-ghost use Rattle.prem_profile.specs.Strips.{strip_of};
+ghost use Rattle.prem_profile.specs.Strips.{first_row, strip_of, strip_words};
+ghost use Rattle.prem_profile.specs.Calls.{narrow};
 ghost use Rattle.prem_profile.specs.Grammar.{cost_text};
-ghost use Rattle.prem_profile.specs.Callgrind.{cost_line, file_byte, file_line, file_text, first_line, function_head, function_line, head_text, is_nothing, lines_behind, lines_text, machine_head, machine_text, name_byte, name_text, nowhere_head, object_line, opening, profile_text, source_at, strip_text, strips_text, switch_line, switch_opening, switch_text, switches_text, total_text};
+ghost use Rattle.prem_profile.specs.Callgrind.{callee_lines, callee_of, calls_at, calls_text, cost_line, file_byte, file_line, file_text, first_line, function_head, function_line, head_text, is_nothing, lines_behind, lines_text, machine_head, machine_text, name_byte, name_text, nowhere_head, object_line, opening, profile_text, row_text, source_at, spent_line, strip_text, strips_text, switch_line, switch_opening, switch_text, switches_text, total_text};
 
 use crate::account::cost_at;
+use crate::calls::{Calls, WideCost, wide_at};
 use crate::cost::Cost;
 use crate::strip::Strip;
 use prem_plant::Label;
@@ -199,19 +201,135 @@ fn lines_behind(lines: &[u32]) -> &[u32]
     }
 }
 
-/// Puts costs at lines behind a text.
+/// Puts what was spent in calls at a line behind a text.
+fn push_spent_line(
+    alloc: Global,
+    text: &mut Vec<u8>,
+    line: u32,
+    cost: WideCost,
+) -> Result<(), AllocError>
+    ensures { OnOk result (text.new.items ≡ text.old.items ++ spent_line line (narrow cost)) }
+{
+    let (instructions, cycles) = (cost.instructions, cost.cycles);
+    let (misses, backs) = (cost.misses, cost.backs);
+    let numbers = format!(in alloc; "{line} {instructions} {cycles} {misses} {backs}\n")?;
+    text.extend_from_slice(numbers.as_bytes())
+}
+
+/// Puts how often a function was called, and the line at which it begins, behind a text.
+fn push_count(
+    alloc: Global,
+    text: &mut Vec<u8>,
+    count: u64,
+    line: u32,
+) -> Result<(), AllocError>
+    ensures { OnOk result (text.new.items ≡ text.old.items ++ (codes "\ncalls=" ++ (decimal count ++ (codes " " ++ (decimal line ++ codes "\n"))))) }
+{
+    let calls = format!(in alloc; "\ncalls={count} {line}\n")?;
+    text.extend_from_slice(calls.as_bytes())
+}
+
+/// Puts what the costs of calls begin with behind a text: the function that is called, and how often.
+#[tactic(auto, unfolding(crate::specs::Callgrind::callee_lines))]
+fn push_callee(
+    alloc: Global,
+    text: &mut Vec<u8>,
+    count: u64,
+    callee: &Strip,
+) -> Result<(), AllocError>
+    ensures { OnOk result (text.new.items ≡ text.old.items ++ callee_lines count (strip_of callee.now)) }
+{
+    text.extend_from_slice(b"cfn=")?;
+    push_name(text, callee.name.as_slice())?;
+    push_count(alloc, text, count, first_line(callee.lines.as_slice()))
+}
+
+/// The n-th strip.
+#[tactic(auto, using(crate::proofs::Callees::strip_is))]
+fn strip_at(strips: &[Strip], n: usize) -> Option<&Strip>
+    ensures some { IfSome result (λ s. slice_get (map strip_of strips.now) n ≡ Some (strip_of s.now)) }
+    ensures none { IsNone result → slice_get (map strip_of strips.now) n ≡ None }
+{
+    strips.get(n)
+}
+
+/// The function of this number.
+fn callee_of(strips: &[Strip], number: usize) -> Option<&Strip>
+    ensures some { IfSome result (λ s. callee_of (map strip_of strips.now) number ≡ Some (strip_of s.now)) }
+    ensures none { IsNone result → callee_of (map strip_of strips.now) number ≡ None }
+{
+    if number == 0 {
+        return None;
+    }
+    strip_at(strips, number - 1)
+}
+
+/// The number of the function that a row has called last; 0 where it has called none.
+fn callee_at(callees: &[usize], row: usize) -> usize
+    ensures { result ≡ slice_index_or callees.now row 0 }
+{
+    match callees.get(row) {
+        Some(callee) => *callee,
+        None => 0,
+    }
+}
+
+/// Puts the calls of a row, whose line is told with how often it was executed, behind a text, if there are some.
+fn push_calls(
+    alloc: Global,
+    text: &mut Vec<u8>,
+    strips: &[Strip],
+    calls: &Calls,
+    row: usize,
+    line: u32,
+    count: u64,
+) -> Result<(), AllocError>
+    ensures { OnOk result (text.new.items ≡ text.old.items ++ calls_text line count (calls_at (map strip_of strips.now) calls.now.callees.items (map narrow calls.now.costs.items) row)) }
+{
+    match callee_of(strips, callee_at(calls.callees.as_slice(), row)) {
+        Some(callee) => {
+            push_callee(alloc, text, count, callee)?;
+            push_spent_line(alloc, text, line, wide_at(calls.costs.as_slice(), row))
+        }
+        None => Ok(()),
+    }
+}
+
+/// Puts what was spent at a row, whose line is told, and in its calls behind a text.
+fn push_row(
+    alloc: Global,
+    text: &mut Vec<u8>,
+    strips: &[Strip],
+    calls: &Calls,
+    row: usize,
+    line: u32,
+    cost: Cost,
+) -> Result<(), AllocError>
+    ensures { OnOk result (text.new.items ≡ text.old.items ++ row_text (calls_at (map strip_of strips.now) calls.now.callees.items (map narrow calls.now.costs.items) row) line cost) }
+{
+    push_cost_line(alloc, text, line, cost)?;
+    push_calls(alloc, text, strips, calls, row, line, cost.instructions)
+}
+
+/// Puts costs at lines, of rows from this one on, behind a text.
 fn push_lines(
     alloc: Global,
     text: &mut Vec<u8>,
+    strips: &[Strip],
+    calls: &Calls,
+    row: usize,
     lines: &[u32],
     costs: &[Cost],
 ) -> Result<(), AllocError>
-    ensures { OnOk result (text.new.items ≡ text.old.items ++ lines_text lines.now costs.now) }
+    requires { row + length costs.now < 2 ^ 64 }
+    ensures { OnOk result (text.new.items ≡ text.old.items ++ lines_text (calls_at (map strip_of strips.now) calls.now.callees.items (map narrow calls.now.costs.items)) row lines.now costs.now) }
 {
     let mut left = lines;
+    let mut at = row;
     'costs: for cost in costs {
-        push_cost_line(alloc, text, first_line(left), *cost)?;
+        push_row(alloc, text, strips, calls, at, first_line(left), *cost)?;
         left = lines_behind(left);
+        at += 1;
     }
     Ok(())
 }
@@ -227,20 +345,43 @@ fn source_names(sources: &[Source], k: u16) -> (&str, &str)
     }
 }
 
-/// Puts the costs of the words of a strip behind a text.
-fn push_strip(
+/// What a profile tells of.
+#[derive(Clone, Copy)]
+pub struct Told<'a> {
+    pub sources: &'a [Source],
+    pub strips: &'a [Strip],
+    pub calls: &'a Calls,
+}
+
+/// Puts what a strip's costs begin with behind a text.
+fn push_strip_head(
     alloc: Global,
     text: &mut Vec<u8>,
     sources: &[Source],
     strip: &Strip,
-    costs: &[Cost],
 ) -> Result<(), AllocError>
-    ensures { OnOk result (text.new.items ≡ text.old.items ++ strip_text sources.now (strip_of strip.now) costs.now) }
+    ensures { OnOk result (text.new.items ≡ text.old.items ++ function_head (source_at sources.now (strip_of strip.now).task) ((strip_of strip.now).task + 1) (strip_of strip.now).name) }
 {
     let (task, file) = source_names(sources, strip.task);
     let number = u32::from(strip.task) + 1;
-    push_function_head(alloc, text, task, file, number, strip.name.as_slice())?;
-    push_lines(alloc, text, strip.lines.as_slice(), costs)
+    push_function_head(alloc, text, task, file, number, strip.name.as_slice())
+}
+
+/// Puts the costs of the words of a strip, of rows from this one on, behind a text.
+fn push_strip(
+    alloc: Global,
+    text: &mut Vec<u8>,
+    told: Told<'_>,
+    row: usize,
+    strip: &Strip,
+    costs: &[Cost],
+) -> Result<(), AllocError>
+    requires { row + length costs.now < 2 ^ 64 }
+    ensures { OnOk result (text.new.items ≡ text.old.items ++ strip_text told.entry.sources.now (calls_at (map strip_of told.entry.strips.now) told.entry.calls.now.callees.items (map narrow told.entry.calls.now.costs.items)) row (strip_of strip.now) costs.now) }
+{
+    push_strip_head(alloc, text, told.sources, strip)?;
+    let lines = strip.lines.as_slice();
+    push_lines(alloc, text, told.strips, told.calls, row, lines, costs)
 }
 
 /// The first so many costs, as far as they are there.
@@ -265,21 +406,26 @@ fn costs_behind(costs: &[Cost], count: usize) -> &[Cost]
     }
 }
 
-/// Puts the costs of strips, which stand one behind another, behind a text.
+/// Puts the costs of all strips, which stand one behind another in the rows from this one on, behind a text.
 fn push_strips(
     alloc: Global,
     text: &mut Vec<u8>,
-    sources: &[Source],
-    strips: &[Strip],
+    told: Told<'_>,
+    row: usize,
     costs: &[Cost],
 ) -> Result<(), AllocError>
-    ensures { OnOk result (text.new.items ≡ text.old.items ++ strips_text sources.now (map strip_of strips.now) costs.now) }
+    requires fits { row + length costs.now < 2 ^ 64 }
+    requires rows { length costs.now ≡ strip_words (map strip_of told.strips.now) }
+    ensures { OnOk result (text.new.items ≡ text.old.items ++ strips_text told.entry.sources.now (calls_at (map strip_of told.entry.strips.now) told.entry.calls.now.callees.items (map narrow told.entry.calls.now.costs.items)) row (map strip_of told.entry.strips.now) costs.now) }
 {
     let mut left = costs;
+    let mut at = row;
+    let strips = told.strips;
     'strips: for strip in strips {
         let count = strip.count as usize;
-        push_strip(alloc, text, sources, strip, front(left, count))?;
+        push_strip(alloc, text, told, at, strip, front(left, count))?;
         left = costs_behind(left, count);
+        at += count;
     }
     Ok(())
 }
@@ -373,21 +519,25 @@ fn push_machine(
     push_switches(alloc, text, sources, costs_behind(costs, 2))
 }
 
-/// A profile of strips of tasks with these sources, with the costs of all rows, and of all together.
+/// A profile of strips of tasks with these sources, with the costs of all rows, the calls of each, and the costs of all together.
+///
+/// Condition: each row has a cost.
 pub fn profile_text(
     alloc: Global,
-    sources: &[Source],
-    strips: &[Strip],
+    told: Told<'_>,
     total: Cost,
     costs: &[Cost],
 ) -> Result<Vec<u8>, AllocError>
-    ensures { IfOk result (λ text. text.items ≡ profile_text sources.now (map strip_of strips.now) total costs.now) }
+    requires { length costs.now ≡ first_row (length told.sources.now) + strip_words (map strip_of told.strips.now) }
+    ensures { IfOk result (λ text. text.items ≡ profile_text told.entry.sources.now (map strip_of told.entry.strips.now) total costs.now
+        (calls_at (map strip_of told.entry.strips.now) told.entry.calls.now.callees.items (map narrow told.entry.calls.now.costs.items))) }
 {
     let mut text = Vec::new(alloc);
     push_head(alloc, &mut text, total)?;
-    push_machine(alloc, &mut text, sources, costs)?;
-    let rows = costs_behind(costs_behind(costs, 2), sources.len());
-    push_strips(alloc, &mut text, sources, strips, rows)?;
+    push_machine(alloc, &mut text, told.sources, costs)?;
+    let tasks = told.sources.len();
+    let rows = costs_behind(costs_behind(costs, 2), tasks);
+    push_strips(alloc, &mut text, told, 2 + tasks, rows)?;
     push_total(alloc, &mut text, total)?;
     Ok(text)
 }

@@ -8,6 +8,7 @@ mod account;
 mod answer;
 pub mod bound;
 mod callgrind;
+mod calls;
 mod cost;
 mod home;
 mod laws;
@@ -19,6 +20,7 @@ mod tracing;
 mod words;
 
 pub use account::{Account, RowTable};
+pub use calls::{Calls, FunctionTable, WideCost};
 pub use cost::Cost;
 pub use home::Home;
 pub use laws::{
@@ -26,4 +28,4 @@ pub use laws::{
 };
 pub use prem_answer::Status;
 pub use top::profiles;
-pub use tracing::profile;
+pub use tracing::{RunProfile, profile};

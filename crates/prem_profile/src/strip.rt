@@ -13,6 +13,8 @@ pub struct Strip {
     pub task: u16,
     /// What its words are told as.
     pub name: Vec<u8>,
+    /// Whether it is called; a start isn't.
+    pub called: bool,
     /// The address of the first one.
     pub at: u32,
     /// How many there are.
@@ -29,7 +31,7 @@ pub struct Rows {
 }
 
 /// A word of memory gets a row, if it is there.
-fn set_row(words: &mut Vec<usize>, place: usize, row: usize)
+pub fn set_row(words: &mut Vec<usize>, place: usize, row: usize)
     ensures { words.new.items ≡ slice_set words.old.items place row }
 {
     if place < words.len() {
@@ -62,7 +64,7 @@ fn set_strips(rows: &mut Rows, strips: &[Strip]) -> Result<(), AllocError>
 }
 
 /// Zeros for so many words.
-fn no_rows(alloc: Global, size: usize) -> Result<Vec<usize>, AllocError>
+pub fn no_rows(alloc: Global, size: usize) -> Result<Vec<usize>, AllocError>
     ensures { IfOk result (λ words. words.items ≡ replicate size 0) }
 {
     let mut words = Vec::new(alloc);

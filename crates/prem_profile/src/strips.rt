@@ -8,7 +8,7 @@ ghost use Rattle.prem_tasks.specs.Stops.{Stops};
 ghost use Rattle.prem_compile.specs.CompiledOf.{compiled_of};
 ghost use Rattle.prem_profile.specs.Lines.Marks.{mark_lines};
 ghost use Rattle.prem_profile.specs.Lines.Told.{lines_told, tables_of};
-ghost use Rattle.prem_profile.specs.Sets.{coded_strips, first_name, has_code, part_strips, rest_names, set_lines, strip_at, strips_of, task_strips, told_as};
+ghost use Rattle.prem_profile.specs.Sets.{coded_strips, first_name, has_code, is_called, part_strips, rest_names, set_lines, strip_at, strips_of, task_strips, told_as};
 ghost use Rattle.prem_profile.specs.SetsTold.{tables_from};
 ghost use Rattle.prem_profile.specs.Strips.{strip_of};
 
@@ -75,6 +75,16 @@ fn has_code(kind: PartKind) -> bool
     }
 }
 
+/// Whether a part is called: a start isn't.
+fn is_called(kind: PartKind) -> bool
+    ensures { result ≡ is_called kind }
+{
+    match kind {
+        PartKind::Code(_) | PartKind::Stub(_) => true,
+        PartKind::Start | PartKind::Global(_) | PartKind::Stack | PartKind::Area(_) => false,
+    }
+}
+
 /// Puts what the words of a part are told as behind a text.
 fn push_told(text: &mut Vec<u8>, kind: PartKind, name: &[u8]) -> Result<(), AllocError>
     ensures { OnOk result (text.new.items ≡ text.old.items ++ told_as kind name.now) }
@@ -115,6 +125,7 @@ fn strip_at(
     Ok(Strip {
         task: part.task,
         name,
+        called: is_called(part.kind),
         at,
         count,
         lines,

@@ -1,5 +1,5 @@
 // The run of an image, of which each cycle is booked at its home.
-ghost use Rattle.std.specs.Prelude.{◌≡◌, ◌≤◌, ◌<◌, ◌-◌, ◌^◌, ◌&&◌, nat_lt, IfOk, Some, true, false, length, replicate};
+ghost use Rattle.std.specs.Prelude.{◌≡◌, ◌≤◌, ◌<◌, ◌-◌, ◌^◌, ◌&&◌, nat_lt, IfOk, Some, true, false, length, map, replicate};
 ghost use Rattle.prem_list.specs.Sequence.{items_of};
 ghost use Rattle.prem_cycle.specs.State.{rule_in, task_in};
 ghost use Rattle.prem_cycle.specs.Cycle.{is_over};
@@ -12,9 +12,11 @@ ghost use Rattle.prem_profile.specs.Spent.{chosen, no_cost, spent_in_all, waitin
 ghost use Rattle.prem_profile.specs.Issuer.{chosen_task, coming_pc, issuer_in};
 ghost use Rattle.prem_profile.specs.Turn.{AreSeen, has_executed, is_point, seen_cost, seen_home, seen_of};
 ghost use Rattle.prem_profile.specs.Account.{each_row, goes_on, row_cost};
+ghost use Rattle.prem_profile.specs.Calls.{AreOfCode, call_cost, narrow, run_calls};
 ghost use Rattle.prem_profile.specs.declared.home.Home.TheVariants.{Rest};
 
-use crate::account::{Account, RowTable, book, new_account};
+use crate::account::{Account, RowTable, book, new_account, row_of};
+use crate::calls::{Calls, FunctionTable, call, new_calls, settle};
 use crate::cost::Cost;
 use crate::home::Home;
 use prem_cycle::{Mode, Stop};
@@ -239,36 +241,57 @@ fn turn_end<P: Policy>(machine: &Machine<P>, at: u64, limit: u64) -> u64
     at + 1
 }
 
-/// What is spent in the run of an image up to a limit: in each row of a table, and all together. It fails only for want of memory.
+/// What is booked of a run.
+#[derive(Drop)]
+pub struct RunProfile {
+    pub account: Account,
+    /// Its calls, in which all is booked.
+    pub calls: Calls,
+}
+
+/// What is spent in the run of an image up to a limit: in each row of a table, all together, and in the calls of each row. It fails only for
+/// want of memory.
 ///
-/// Conditions: the image's policy is of this kind, the run fits the image, the limit is at most 2^61, and nothing is spent in any row before.
+/// Conditions: the image's policy is of this kind, the run fits the image, the limit is at most 2^61, nothing is spent in any row before, and
+/// only rows of code have functions.
 pub fn profile<P: Policy>(
     alloc: Global,
     image: &Image,
     input: &RunInput,
     table: &RowTable,
+    functions: &FunctionTable,
     costs: Vec<Cost>,
     limit: u64,
-) -> Result<Account, AllocError>
+) -> Result<RunProfile, AllocError>
     requires policy { image.now.plant.policy ≡ P.kind_of }
     requires fits { FitsRun (setup_of image.now) (words_of input.now) (items_of input.now.requests) }
     requires limit { limit ≤ 2 ^ 61 }
     requires costs { costs.items ≡ replicate (length costs.items) no_cost }
-    ensures total { IfOk result (λ a. a.total ≡ spent_in_all (rule_in (setup_of image.now)) (setup_of image.now) (items_of input.now.requests) Rest limit
+    requires functions { AreOfCode functions.now.functions.items table.now.tasks }
+    ensures total { IfOk result (λ p. p.account.total ≡ spent_in_all (rule_in (setup_of image.now)) (setup_of image.now) (items_of input.now.requests) Rest limit
         (image_run (rule_in (setup_of image.now)) image.now input.now 0)) }
-    ensures costs { IfOk result (λ a. a.costs.items ≡ each_row (row_cost table.now.tasks table.now.words.items (rule_in (setup_of image.now)) (setup_of image.now)
+    ensures costs { IfOk result (λ p. p.account.costs.items ≡ each_row (row_cost table.now.tasks table.now.words.items (rule_in (setup_of image.now)) (setup_of image.now)
         (items_of input.now.requests) limit (image_run (rule_in (setup_of image.now)) image.now input.now 0)) 0 (length costs.items)) }
+    ensures callees { IfOk result (λ p. p.calls.callees.items ≡ (run_calls functions.now.functions.items table.now.tasks table.now.words.items functions.now.most (length costs.items)
+        (rule_in (setup_of image.now)) (setup_of image.now) (items_of input.now.requests) limit (image_run (rule_in (setup_of image.now)) image.now input.now 0)).callees) }
+    ensures calls { IfOk result (λ p. map narrow p.calls.costs.items ≡ each_row (call_cost functions.now.functions.items table.now.tasks table.now.words.items functions.now.most (length costs.items)
+        (rule_in (setup_of image.now)) (setup_of image.now) (items_of input.now.requests) limit (image_run (rule_in (setup_of image.now)) image.now input.now 0)) 0 (length costs.items)) }
 {
     let mut machine = Machine::<P>::new(alloc, image, input)?;
+    let first = row_of(table, Home::Rest);
+    let mut calls = new_calls(alloc, functions, first, costs.len())?;
     let mut account = new_account(costs);
     let mut at = 0u64;
     let mut stop = machine.run_to(at);
     'turns: while has_turn(at, limit, stop) {
         let end = turn_end(&machine, at, limit);
         let turn = go_on(&mut machine, account.home, end);
-        book(&mut account, table, turn.home, turn.cost);
+        let row = row_of(table, turn.home);
+        book(&mut account, turn.home, row, turn.cost);
+        call(&mut calls, functions, row, turn.cost);
         stop = turn.stop;
         at = end;
     }
-    Ok(account)
+    settle(&mut calls, functions);
+    Ok(RunProfile { account, calls })
 }

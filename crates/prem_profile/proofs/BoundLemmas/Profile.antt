@@ -6,6 +6,7 @@ use Rattle.prem_wcet_laws.specs.Wcet.{wcet_of}
 use Rattle.prem_profile.specs.declared.cost.Cost.{Cost}
 use Rattle.prem_profile.specs.Account.{each_row}
 use Rattle.prem_profile.specs.Strips.{first_row, rows_of, strip_words}
+use Rattle.prem_profile.specs.Callgrind.{no_calls_at}
 use Rattle.prem_profile.specs.Entries.{profile_entries}
 use Rattle.prem_profile.specs.Bound.Bills.{Bill, total}
 use Rattle.prem_profile.specs.Bound.Booked.{bill_row, bills_from}
@@ -31,9 +32,9 @@ bounds_add_up sources strips size p tasks =
     let rows : ℕ = first_row tasks_told + strip_words strips in
     let costs : List Cost = each_row (bill_row tasks_told (rows_of tasks_told size strips) bill) 0 rows in
     record {
-      entries = profile_entries sources strips costs;
+      entries = profile_entries sources strips costs no_calls_at;
       sums = total bill;
-      read = profiles_are_read sources strips (total bill) costs;
-      lines = lines_add_up sources strips costs (rows_long (bill_row tasks_told (rows_of tasks_told size strips) bill) 0 rows) ∙ bill_rows_add_up tasks_told size strips bill;
+      read = profiles_are_read sources strips (total bill) costs no_calls_at;
+      lines = lines_add_up sources strips costs no_calls_at (rows_long (bill_row tasks_told (rows_of tasks_told size strips) bill) 0 rows) ∙ bill_rows_add_up tasks_told size strips bill;
       cycles = (all_come p 0 tasks).is;
     }

@@ -1,6 +1,6 @@
 -- Worked bills: what jobs are billed on the path that counts most, by the place of each word, counted from the machine's costs and the layout by hand.
 use Rattle.std.specs.Prelude.{codes}
-use Rattle.std.proofs.Common.{◌≡◌, refl, ℕ, ◌+◌, List, [], ◌∷◌, map, Option, Some, None, pos}
+use Rattle.std.proofs.Common.{◌≡◌, refl, ℕ, ◌+◌, List, [], ◌∷◌, map, Option, Some, None, pos, true}
 use Rattle.prem_word.specs.declared.kind.BinOp.TheVariants.{Add as AddOp}
 use Rattle.prem_plant.specs.Ranges.{default_plant as plant}
 use Rattle.prem_isa.specs.declared.instr.Instr.{Instr}
@@ -25,6 +25,7 @@ use Rattle.prem_profile.specs.declared.callgrind.Source.{Source}
 use Rattle.prem_profile.specs.Account.{each_row}
 use Rattle.prem_profile.specs.Strips.{Strip, first_row, rows_of, strip_words}
 use Rattle.prem_profile.specs.Grammar.{Entry}
+use Rattle.prem_profile.specs.Callgrind.{no_calls_at}
 use Rattle.prem_profile.specs.Entries.{profile_entries}
 use Rattle.prem_profile.specs.Lines.Table.{at_line}
 
@@ -67,7 +68,7 @@ marked_bill = refl
 
 -- by line: the mark and `set` are in line 2, `job` is in line 3; `set` stands from 8 on, and nothing of it is counted but the stated length
 abbrev strip : List ℕ → (at count line : ℕ) → Strip
-strip name at count line = record { task = 0; name = name; at = at; count = count; lines = at_line line count }
+strip name at count line = record { task = 0; name = name; called = true; at = at; count = count; lines = at_line line count }
 
 abbrev marked_strips : List Strip
 marked_strips = strip (codes "[start]") 0 2 3 ∷ strip (codes "set") 8 9 2 ∷ strip (codes "job") 44 12 3 ∷ strip (codes "[stub] set") 92 43 2 ∷ []
@@ -79,7 +80,7 @@ abbrev line_and_cycles : List Entry → List (ℕ × ℕ)
 line_and_cycles entries = map (λ (e : Entry). (e.line, e.cost.cycles)) entries
 
 abbrev bound_lines : Bill → List (ℕ × ℕ)
-bound_lines bill = line_and_cycles (profile_entries (marked_source ∷ []) marked_strips (each_row (bill_row 1 (rows_of 1 68 marked_strips) bill) 0 (first_row 1 + strip_words marked_strips)))
+bound_lines bill = line_and_cycles (profile_entries (marked_source ∷ []) marked_strips (each_row (bill_row 1 (rows_of 1 68 marked_strips) bill) 0 (first_row 1 + strip_words marked_strips)) no_calls_at)
 
 marked_lines : bound_lines (set_bill plant (placed plant (coded (codes "m") 1000 1 m_text m_turns ∷ [])))
     ≡ (0, 60) ∷ (3, 22) ∷ (3, 21) ∷ (3, 81) ∷ (3, 2) ∷ (3, 1) ∷ (3, 2) ∷ (3, 22) ∷ (3, 81) ∷ (3, 1) ∷ (3, 2) ∷ (3, 1) ∷ (3, 2) ∷ (3, 1) ∷ (3, 2) ∷ (2, 534) ∷ []

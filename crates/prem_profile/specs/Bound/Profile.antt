@@ -8,7 +8,7 @@ use Rattle.prem_profile.specs.declared.callgrind.Source.{Source}
 use Rattle.prem_profile.specs.Account.{each_row}
 use Rattle.prem_profile.specs.Strips.{Strip, first_row, rows_of, strip_words}
 use Rattle.prem_profile.specs.Grammar.{Entry, IsProfile}
-use Rattle.prem_profile.specs.Callgrind.{profile_text}
+use Rattle.prem_profile.specs.Callgrind.{no_calls_at, profile_text}
 use Rattle.prem_profile.specs.Entries.{entries_sum}
 use Rattle.prem_profile.specs.Bound.Bills.{Bill, total}
 use Rattle.prem_profile.specs.Bound.Booked.{bill_row, bills_from}
@@ -24,7 +24,7 @@ set_bill p tasks = joined (bills_from p 0 tasks)
 abbrev pub bound_profile : List Source → List Strip → (size : ℕ) → Plant → List Placed → List ℕ
 bound_profile sources strips size p tasks =
     profile_text sources strips (total (set_bill p tasks))
-    (each_row (bill_row (length sources) (rows_of (length sources) size strips) (set_bill p tasks)) 0 (first_row (length sources) + strip_words strips))
+    (each_row (bill_row (length sources) (rows_of (length sources) size strips) (set_bill p tasks)) 0 (first_row (length sources) + strip_words strips)) no_calls_at
 
 -- what one job of each task takes at most, together
 abbrev pub wcets : Plant → List Placed → ℕ
