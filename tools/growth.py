@@ -99,6 +99,9 @@ CASES = [  # the program, what, the greatest count, the words, the file as a fun
     ("prem_chart", "n requests, with --every", 10000, "idle f --every d=10", requests),
     ("prem_wave", "n requests", 10000, "idle f", requests),
     ("prem_wave", "a run of n jobs", 10000, "jobs e", lambda n: b""),
+    ("prem_profile", "a run of n jobs", 10000, "jobs e", lambda n: b""),
+    ("prem_profile", "a job of n marked calls", 2000, "s e", calls),
+    ("prem_profile", "a job of n loops", 1500, "s e", loops),
 ]
 
 

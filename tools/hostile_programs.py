@@ -43,6 +43,7 @@ PROGRAMS = {
     "prem_time": (["s.toml", "dma=500"], ["check", "s.toml"], None),
     "prem_wave": (["s.toml", "d.run"], ["run", "s.toml", "d.run"], None),
     "prem_chart": (["s.toml", "d.run", "--every", "dma=500"], ["run", "s.toml", "d.run"], None),
+    "prem_profile": (["s.toml", "d.run"], ["run", "s.toml", "d.run"], None),
     "prem_annotate": (["s.toml", "m"], ["check", "s.toml"], None),
     "prem_resp": (["s.toml"], ["check", "s.toml"], 2),
     "prem_lint": (["s.toml"], ["check", "s.toml"], 0),
@@ -88,6 +89,12 @@ WORDS = {  # words, and the status with the text: None for a text that is long
         (["s.toml", "d.run", "--every"], (2, USAGE)),
         (["s.toml", "d.run", "--every", "dma"], (2, USAGE)),
         (["s.toml", "d.run", "--every", "dma=5", "--every", "dma=5"], (2, USAGE)),
+    ],
+    "prem_profile": [
+        *[(["s.toml", "d.run", "--cycles", it], (0, None) if good else (2, USAGE)) for it, good in ENDS.items()],
+        (["s.toml", "d.run", "--cycles"], (2, USAGE)),
+        (["s.toml", "d.run", "--cycles", "1", "--cycles", "1"], (2, USAGE)),
+        (["s.toml", "d.run", "d.run"], (2, USAGE)),
     ],
     "prem_annotate": [
         (["s.toml", "x"], (7, "missing x\n")),

@@ -116,6 +116,12 @@ sd.toml d.run --from 100 --to 500
 sd.toml lan.run
 conflict.toml e.run
 """,
+    "prem_profile_cli": """sd.toml d.run
+sd.toml d.run --cycles 500
+sd.toml lan.run
+conflict.toml e.run
+fir.toml fir.run
+""",
     "prem_annotate_cli": """s.toml m
 bare.toml m
 late.toml m

@@ -1,6 +1,6 @@
 -- The lines of a profile add up to its rows.
-use Rattle.std.specs.Prelude.{◌==◌, ◌&&◌, slice_index_or, codes}
-use Rattle.std.proofs.Common.{◌≡◌, ℕ, zero, suc, ◌+◌, ◌≤◌, List, [], ◌∷◌, ◌++◌, Option, Some, None, Bool, true, false, cond, length, take, drop, refl, ap, ap₂, sym, ◌∙◌, arith}
+use Rattle.std.specs.Prelude.{◌==◌, ◌&&◌, codes}
+use Rattle.std.proofs.Common.{◌≡◌, ℕ, zero, suc, ◌+◌, List, [], ◌∷◌, ◌++◌, Option, Some, None, Bool, true, false, cond, length, take, drop, refl, ap, ap₂, sym, ◌∙◌, arith}
 use Rattle.std.proofs.lemmas.Bool.Decides.{nat_tests}
 use Rattle.prem_profile.specs.declared.cost.Cost.{Cost}
 use Rattle.prem_profile.specs.declared.callgrind.Source.{Source}
@@ -9,7 +9,7 @@ use Rattle.prem_profile.specs.Account.{costs_sum}
 use Rattle.prem_profile.specs.Strips.{Strip, first_row, strip_words}
 use Rattle.prem_profile.specs.Grammar.{Entry, Position}
 use Rattle.prem_profile.specs.Callgrind.{CallsAt, first_line, is_nothing, lines_behind, name_text}
-use Rattle.prem_profile.specs.Entries.{LinesAddUp, calls_entry, entries_at, entries_sum, entry_at, machine_entries, machine_position, own_cost, profile_entries, row_entries, strip_position, strips_entries, switches_entries}
+use Rattle.prem_profile.specs.Entries.{LinesAddUp, calls_entry, entries_at, entries_sum, entry_at, machine_entries, machine_position, own_cost, row_entries, strip_position, strips_entries, switches_entries}
 
 -- ---- costs
 

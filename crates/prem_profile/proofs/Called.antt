@@ -1,5 +1,5 @@
 -- The calls of a run, turn by turn, and what is spent in them.
-use Rattle.std.specs.Prelude.{◌==◌, ◌&&◌, not, nat_lt, slice_index_or}
+use Rattle.std.specs.Prelude.{◌==◌, ◌&&◌, not}
 use Rattle.std.proofs.Common.{◌≡◌, ℕ, zero, suc, ◌+◌, ◌-◌, ◌*◌, ◌≤◌, ◌<◌, ◌^◌, Bool, true, false, cond, List, [], ◌∷◌, refl, ap, ap₂, sym, ◌∙◌, subst, arith}
 use Rattle.std.proofs.lemmas.Bool.Decides.{nat_tests}
 use Rattle.prem_lru.specs.Entries.{ReplacementRule}
@@ -12,7 +12,7 @@ use Rattle.prem_profile.specs.declared.cost.Cost.{Cost}
 use Rattle.prem_profile.specs.declared.home.Home.{Home}
 use Rattle.prem_profile.specs.Spent.{cycle_cost, home_after, no_cost, plus, spent, spent_in_all, where_so}
 use Rattle.prem_profile.specs.Turn.{IsTurn}
-use Rattle.prem_profile.specs.Account.{Fits, each_row, with_cost}
+use Rattle.prem_profile.specs.Account.{Fits, each_row}
 use Rattle.prem_profile.specs.Calls.{FitsWide, LastCalls, caller_of, calls_after, calls_of, follow, function_at, functions_of, is_call, is_first, no_calls, noted, spent_in, spent_within, times, with_call, with_calls}
 use Rattle.prem_profile.specs.Strips.{Strip}
 use Rattle.prem_profile.proofs.Turns.{IsSmall, cycle_small, cycles_later, home_after-add, none_plus, over_cost, plus_assoc, plus_none, plus_small, same_cost, step_later, where_none, where_plus, where_small}

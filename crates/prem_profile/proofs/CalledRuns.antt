@@ -1,6 +1,6 @@
 -- A run whose calls are booked turn by turn.
 use Rattle.std.specs.Prelude.{nat_lt, not, ◌&&◌, ◌==◌}
-use Rattle.std.proofs.Common.{◌≡◌, ℕ, zero, suc, ◌+◌, ◌-◌, ◌<◌, ◌≤◌, ◌^◌, Bool, true, false, cond, List, [], ◌∷◌, Some, None, get_or, replicate, refl, ap, ap₂, sym, ◌∙◌, subst, arith}
+use Rattle.std.proofs.Common.{◌≡◌, ℕ, zero, suc, ◌+◌, ◌-◌, ◌<◌, ◌≤◌, ◌^◌, Bool, true, false, cond, List, Some, get_or, replicate, refl, ap, sym, ◌∙◌, subst, arith}
 use Rattle.std.proofs.lemmas.Bool.Decides.{nat_tests}
 use Rattle.prem_list.specs.Sequence.{items_of}
 use Rattle.prem_sched.specs.declared.sched.TaskJobs.{TaskJobs}
@@ -24,17 +24,17 @@ use Rattle.prem_machine.specs.States.{Running, state_of}
 use Rattle.prem_profile.specs.declared.cost.Cost.{Cost}
 use Rattle.prem_profile.specs.declared.home.Home.{Home}
 use Rattle.prem_profile.specs.declared.home.Home.TheVariants.{Rest, Switch}
-use Rattle.prem_profile.specs.Spent.{chosen, home_after, home_of, home_with, no_cost, plus, spent, waiting_home}
+use Rattle.prem_profile.specs.Spent.{chosen, home_after, home_with, no_cost, plus, spent, waiting_home}
 use Rattle.prem_profile.specs.Turn.{IsTurn}
 use Rattle.prem_profile.specs.Account.{Fits, each_row, goes_on, row_of, switch_row}
-use Rattle.prem_profile.specs.Calls.{AreOfCode, FitsWide, HasWideRoom, LastCalls, calls_after, calls_of, costs_with, function_at, is_call, is_first, no_calls, noted, recent_with}
+use Rattle.prem_profile.specs.Calls.{AreOfCode, FitsWide, HasWideRoom, LastCalls, calls_after, calls_of, costs_with, function_at, no_calls, noted, recent_with}
 use Rattle.prem_profile.specs.Calls.{settled, spent_in, spent_within, times, with_call, with_calls}
-use Rattle.prem_profile.proofs.Turns.{IsSmall, booked, home_after-add, over_none, plus_none, spent_small}
+use Rattle.prem_profile.proofs.Turns.{IsSmall, booked, over_none, plus_none, spent_small}
 use Rattle.prem_profile.proofs.Booking.{at_row, none_rows, none_small, rows_same}
 use Rattle.prem_profile.proofs.Called.{IsBelow, IsFew, calls_after-add, few_fit, few_part, few_small, noted_same, over_within, spent_within-add, turn_calls, turn_within, wide_fits, with_open, within_small}
 use Rattle.prem_profile.proofs.Rooms.{calls_grow, earlier_next, earlier_with, nothing_settled, settled_next}
 use Rattle.prem_profile.proofs.RowsAdd.{switch_below}
-use Rattle.prem_profile.proofs.Profiled.{IsProfiled, after, after_small, all_at, home_at, over_is, start}
+use Rattle.prem_profile.proofs.Profiled.{after, after_small, all_at, home_at, over_is, start}
 
 abbrev pub known_at : (most tasks : ℕ) (words functions : List ℕ) (rows : ℕ) → Image → RunInput → ℕ → LastCalls
 known_at most tasks words functions rows image input n =

@@ -7,11 +7,11 @@ use Rattle.prem_profile.specs.declared.cost.Cost.{Cost}
 use Rattle.prem_profile.specs.declared.callgrind.Source.{Source}
 use Rattle.prem_profile.specs.Spent.{no_cost}
 use Rattle.prem_profile.specs.Strips.{Strip, first_row}
-use Rattle.prem_profile.specs.Grammar.{Entry, IsProfile, Position, Tells, calls, cost, cost_text, empty, file, function, is_in_line, is_in_name, nothing, nowhere, object}
+use Rattle.prem_profile.specs.Grammar.{Entry, Position, Tells, calls, cost, cost_text, empty, file, function, is_in_line, is_in_name, nothing, nowhere, object}
 use Rattle.prem_profile.specs.Callgrind.{CallsAt, callee_lines, calls_text, cost_line, file_byte, file_line, file_text, first_line, function_head, function_line, head_text, is_nothing, lines_behind, lines_text}
-use Rattle.prem_profile.specs.Callgrind.{machine_head, machine_text, name_byte, name_text, nowhere_head, object_line, opening, profile_text, row_text, source_at, spent_line, strip_text, strips_text}
+use Rattle.prem_profile.specs.Callgrind.{machine_head, machine_text, name_byte, name_text, nowhere_head, object_line, opening, row_text, source_at, strip_text, strips_text}
 use Rattle.prem_profile.specs.Callgrind.{switch_line, switch_opening, switch_text, switches_text, total_text}
-use Rattle.prem_profile.specs.Entries.{ProfilesAreRead, calls_entry, entries_at, entry_at, machine_entries, machine_position, profile_entries, row_entries, strip_position, strips_entries, switches_entries}
+use Rattle.prem_profile.specs.Entries.{ProfilesAreRead, calls_entry, entries_at, entry_at, machine_entries, machine_position, row_entries, strip_position, strips_entries, switches_entries}
 
 -- ---- names
 

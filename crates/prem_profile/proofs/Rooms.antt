@@ -1,12 +1,12 @@
 -- Costs of calls in memory, and that there is room for another one.
-use Rattle.std.specs.Prelude.{◌==◌, ◌&&◌, not, nat_lt, slice_index_or, slice_set}
+use Rattle.std.specs.Prelude.{◌==◌, ◌&&◌, not, slice_index_or, slice_set}
 use Rattle.std.proofs.lemmas.Bool.Decides.{nat_tests}
 use Rattle.std.proofs.Common.{◌≡◌, ℕ, zero, suc, ◌+◌, ◌≤◌, ◌<◌, Bool, true, false, cond, List, [], ◌∷◌, length, map, get_or, refl, ap, sym, ◌∙◌, subst, arith}
 use Rattle.prem_profile.specs.declared.cost.Cost.{Cost}
 use Rattle.prem_profile.specs.declared.calls.WideCost.{WideCost}
 use Rattle.prem_profile.specs.Spent.{no_cost, plus}
 use Rattle.prem_profile.specs.Account.{with_cost}
-use Rattle.prem_profile.specs.Calls.{FitsWide, HasWideRoom, LastCalls, caller_of, calls_of, costs_with, follow, function_at, is_first, narrow, noted, recent_with, settled, times, with_call, with_calls}
+use Rattle.prem_profile.specs.Calls.{FitsWide, HasWideRoom, LastCalls, caller_of, calls_of, costs_with, follow, function_at, is_first, narrow, noted, recent_with, settled, with_call, with_calls}
 use Rattle.prem_profile.proofs.Turns.{none_plus, plus_assoc, plus_none, same_cost}
 use Rattle.prem_profile.proofs.Called.{IsBelow, and_not, below_same, below_then}
 
@@ -163,6 +163,7 @@ settled_next most functions calls row row' recent cost costs = by (function_at f
   where
     before : List Cost
     before = settled most functions calls.callers row recent costs
+
     by : (b : Bool) → (function_at functions row == function_at functions row') ≡ b →
         with_calls (cond b costs before) (calls_of most functions (with_note functions row row' calls (is_first functions row' && not b)).callers row') (plus (cond b recent no_cost) cost)
         ≡ with_calls before (calls_of most functions (with_note functions row row' calls (is_first functions row' && not b)).callers row') cost

@@ -217,12 +217,7 @@ fn push_spent_line(
 }
 
 /// Puts how often a function was called, and the line at which it begins, behind a text.
-fn push_count(
-    alloc: Global,
-    text: &mut Vec<u8>,
-    count: u64,
-    line: u32,
-) -> Result<(), AllocError>
+fn push_count(alloc: Global, text: &mut Vec<u8>, count: u64, line: u32) -> Result<(), AllocError>
     ensures { OnOk result (text.new.items ≡ text.old.items ++ (codes "\ncalls=" ++ (decimal count ++ (codes " " ++ (decimal line ++ codes "\n"))))) }
 {
     let calls = format!(in alloc; "\ncalls={count} {line}\n")?;

@@ -261,11 +261,7 @@ pub fn call(calls: &mut Calls, table: &FunctionTable, row: usize, cost: Cost)
 }
 
 /// So many rows of a function behind others.
-fn push_function(
-    functions: &mut Vec<usize>,
-    function: usize,
-    count: u32,
-) -> Result<(), AllocError>
+fn push_function(functions: &mut Vec<usize>, function: usize, count: u32) -> Result<(), AllocError>
     ensures { OnOk result (functions.new.items ≡ functions.old.items ++ replicate count function) }
 {
     'words: for _ in 0..count {

@@ -1,4 +1,4 @@
-use Rattle.std.proofs.Common.{◌+◌, ◌++◌, ◌∷◌, List, ap, sym, ◌∙◌, drop, length, map, replicate}
+use Rattle.std.proofs.Common.{◌+◌, ◌++◌, ◌∷◌, ap, sym, ◌∙◌, drop, length, map, replicate}
 use Rattle.prem_profile.specs.declared.strip.Strip.{Strip as StripTree}
 use Rattle.prem_profile.specs.Spent.{no_cost}
 use Rattle.prem_profile.specs.Strips.{strip_of, strip_rows, strip_words}

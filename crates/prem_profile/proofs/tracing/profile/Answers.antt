@@ -1,4 +1,4 @@
-use Rattle.std.proofs.Common.{◌≤◌, ◌^◌, length, map, replicate, ap, ap₂, sym, ◌∙◌, subst, arith}
+use Rattle.std.proofs.Common.{◌≤◌, length, map, replicate, ap, ap₂, sym, ◌∙◌, subst, arith}
 use Rattle.prem_cycle.specs.State.{MachineState}
 use Rattle.prem_machine.specs.States.{state_of}
 use Rattle.prem_profile.specs.Spent.{no_cost, plus}
