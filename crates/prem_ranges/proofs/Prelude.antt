@@ -12,10 +12,10 @@ pub use Rattle.prem_ranges.specs.RangesKept.{StaysInRange, limits_of, resolved}
 unfoldable pub use Rattle.prem_ranges.specs.RangesKept.{first_range_breach, turn_bounds}
 pub use Rattle.prem_ranges.specs.Regions.{Area, Watch, area_holds, areas_hold, areas_in, areas_of, inside_regions, watch_if, watches_from, watches_of}
 pub use Rattle.prem_ranges.specs.Saves.Saves.{Saved, changed, few_or_all, known_at, merged, named, restored, saved, saved_at, saved_few}
-pub use Rattle.prem_ranges.specs.Sound.{Alike, AlikeRoutine, AlikeRoutines, AllTyped, Allows, Always, AreWords, CallsReturn, Cells, Good, HasBounds, HasGlobal, HasValue, Holds, IsBack}
+pub use Rattle.prem_ranges.specs.Sound.{Alike, AlikeRoutine, AlikeRoutines, AllTyped, Allows, Always, AreWords, CallsReturn, Cells, Ends, Good, HasBounds, HasGlobal, HasValue, Holds, IsBack}
 pub use Rattle.prem_ranges.specs.Sound.{IsCell, IsCounting, IsOperator, IsScalar, IsValue, Ran, Ranged, Shaped, Typed, TypedLocals, TypedProgram, TypedResult, TypedRoutine, TypedSteps}
-pub use Rattle.prem_ranges.specs.Sound.{alike_call, alike_done, alike_element, alike_for, alike_if, alike_input, alike_local, alike_output, alike_scalar, alike_while, kinds_of, next_global}
-pub use Rattle.prem_ranges.specs.Sound.{next_local, next_ranged, next_routine, no_globals, no_locals, no_routines, none_ranged, turns_in}
+pub use Rattle.prem_ranges.specs.Sound.{alike_call, alike_done, alike_element, alike_for, alike_if, alike_input, alike_local, alike_output, alike_scalar, alike_while, gives, kinds_of, next_global}
+pub use Rattle.prem_ranges.specs.Sound.{next_local, next_ranged, next_routine, no_globals, no_locals, no_routines, none_ranged, turns_in, wrong}
 pub use Rattle.prem_ranges.specs.Turns.{calls_or, enter_or, jobs_or, source_or, turns_of, wrong_call}
 pub use Rattle.prem_ranges.specs.Unary.TableLaws.{TableLaws, unary_range}
 pub use Rattle.prem_ranges.specs.Wrong.{all_lines, divisor_lines, program_lines, result_lines, routine_lines, steps_lines, term_lines}
