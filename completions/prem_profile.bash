@@ -4,8 +4,18 @@ _prem_profile() {
   COMPREPLY=()
   compopt -o filenames 2>/dev/null
   case $COMP_CWORD in
-    1) COMPREPLY=($(compgen -f -X '!*.toml' -- "$word") $(compgen -d -- "$word")) ;;
-    2) COMPREPLY=($(compgen -f -X '!*.run' -- "$word") $(compgen -d -- "$word")) ;;
+    1)
+      case $word in
+        -*) COMPREPLY=($(compgen -W "--bound" -- "$word")) ;;
+        *) COMPREPLY=($(compgen -f -X '!*.toml' -- "$word") $(compgen -d -- "$word")) ;;
+      esac
+      ;;
+    2)
+      case ${COMP_WORDS[1]} in
+        --bound) COMPREPLY=($(compgen -f -X '!*.toml' -- "$word") $(compgen -d -- "$word")) ;;
+        *) COMPREPLY=($(compgen -f -X '!*.run' -- "$word") $(compgen -d -- "$word")) ;;
+      esac
+      ;;
     3) COMPREPLY=($(compgen -W "--cycles" -- "$word")) ;;
   esac
 }

@@ -18,3 +18,4 @@ pub mod Summed
 pub mod Few
 pub mod Tool
 pub mod BoundLemmas
+pub mod BillLemmas

@@ -1,16 +1,19 @@
--- The answer to `SET RUN [--cycles N]`: the profile of the run of a compiled set, or the first rule that the set breaks.
-use Rattle.std.specs.Prelude.{◌≡◌, ⊤, ℕ, ◌+◌, ◌/◌, List, length, map, None, Ok, codes}
+-- The answer to `SET RUN [--cycles N]`: the profile of the run of a compiled set, or the first rule that the set breaks; and to `--bound SET`, that of its bound.
+use Rattle.std.specs.Prelude.{◌≡◌, ⊤, ℕ, ◌+◌, ◌/◌, List, length, map, Option, None, Some, Ok, codes}
 use Rattle.prem_io.specs.Files.{Files}
 use Rattle.prem_lru.specs.Rules.{rule_of}
 use Rattle.prem_image.specs.Text.{ImageText}
 use Rattle.prem_cycle.specs.Inputs.{image_setup}
 use Rattle.prem_tasks.specs.Broken.{TaskSet, broken}
-use Rattle.prem_tasks.specs.Compiled.{compiled}
+use Rattle.prem_tasks.specs.Compiled.{compiled, placed_in}
+use Rattle.prem_tasks.specs.Told.{Told}
+use Rattle.prem_layout.specs.Rules.{Refusal}
 use Rattle.prem_set.specs.declared.task.TaskEntry.{TaskEntry}
 use Rattle.prem_set.specs.SetFile.{SetData}
 use Rattle.prem_answer.specs.declared.status.Status.TheVariants.{Done}
 use Rattle.prem_answer.specs.declared.answer.Telling.TheVariants.{Whole}
 use Rattle.prem_answer.specs.Stages.{Reply, Stage, reading_by}
+use Rattle.prem_answer.specs.Refusal.Texts.{refused_reply}
 use Rattle.prem_answer.specs.Tool.{ToolMeaning}
 use Rattle.prem_exec.specs.Forms.{RunText}
 use Rattle.prem_exec.specs.Exec.{state_at}
@@ -30,7 +33,8 @@ use Rattle.prem_profile.specs.Totals.{IsTotal}
 use Rattle.prem_profile.specs.Grammar.{Entry, IsProfile}
 use Rattle.prem_profile.specs.Callgrind.{calls_at, profile_text}
 use Rattle.prem_profile.specs.Entries.{entries_sum}
-use Rattle.prem_profile.specs.Words.{ProfileAsked, RunAsked, asked_of, of_run}
+use Rattle.prem_profile.specs.Bound.Profile.{bound_profile}
+use Rattle.prem_profile.specs.Words.{ProfileAsked, RunAsked, asked_of, of_bound, of_run}
 
 -- ---- the profile
 
@@ -69,8 +73,34 @@ behind_file asked s = reading_sources Whole s (behind_set (sources_of s.tasks) a
 abbrev pub run_stages : RunAsked → Stage Reply
 run_stages asked = reading_by Whole set_limit asked.set (set_of_bytes_by Whole asked.set) (behind_file asked)
 
+-- ---- the bound
+
+-- of a set that breaks no rule
+abbrev pub bound_text : List Source → TaskSet → List ℕ
+bound_text sources set =
+    bound_profile sources (strips_of (set_lines set) (compiled set)) (length (compiled set).image.content / 4) set.plant (placed_in set)
+
+-- to a set whose first broken rule is this, if it breaks one
+abbrev pub judged_bound : List Source → TaskSet → Option (Refusal Told) → Reply
+judged_bound sources set None = (Done, bound_text sources set)
+judged_bound sources set (Some refusal) = refused_reply set.tasks refusal
+
+abbrev pub bound_reply : List Source → TaskSet → Reply
+bound_reply sources set = judged_bound sources set (broken set)
+
+-- the set's file and its sources are read, and the set is judged
+abbrev pub bound_of_set : List Source → TaskSet → Stage Reply
+bound_of_set sources set reads = Ok (bound_reply sources set)
+
+abbrev pub bound_of_file : SetData → Stage Reply
+bound_of_file s = reading_sources Whole s (bound_of_set (sources_of s.tasks))
+
+abbrev pub bound_stages : (set : List ℕ) → Stage Reply
+bound_stages set = reading_by Whole set_limit set (set_of_bytes_by Whole set) bound_of_file
+
 abbrev pub profile_stages : ProfileAsked → Stage Reply
 profile_stages (of_run asked) = run_stages asked
+profile_stages (of_bound set) = bound_stages set
 
 -- ---- the program
 
@@ -83,14 +113,22 @@ pub record RunSucceeds (files : Files) (asked : RunAsked) (reply : Reply) : Type
   pub unbroken : broken set ≡ None
   pub reply_is : reply ≡ profile_tells (sources_of there.stated.tasks) asked set input (compiled set)
 
+-- the set is there and in form, and breaks no rule
+pub record BoundSucceeds (files : Files) (asked : List ℕ) (reply : Reply) : Type 0 where
+  pub set : TaskSet
+  pub there : SetIsThere files asked set
+  pub unbroken : broken set ≡ None
+  pub reply_is : reply ≡ (Done, bound_text (sources_of there.stated.tasks) set)
+
 abbrev pub Succeeds : Files → ProfileAsked → Reply → Type 0
 Succeeds files (of_run asked) reply = RunSucceeds files asked reply
+Succeeds files (of_bound set) reply = BoundSucceeds files set reply
 
 abbrev pub profile_tool : ToolMeaning
 profile_tool = record {
   Asked = ProfileAsked;
   asked_of = asked_of;
-  usage = codes "usage: prem_profile SET RUN [--cycles N]\n";
+  usage = codes "usage: prem_profile SET RUN [--cycles N] | prem_profile --bound SET\n";
   stages = profile_stages;
   keeps = λ asked reads given. ⊤;
   succeeds = Succeeds;

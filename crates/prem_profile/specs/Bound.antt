@@ -7,3 +7,7 @@ pub mod Tasks
 pub mod Laws
 pub mod Booked
 pub mod Profile
+pub mod Priced
+pub mod Memory
+pub mod Billed
+pub mod Small

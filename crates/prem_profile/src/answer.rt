@@ -1,5 +1,5 @@
 // The profile of the run of a set.
-ghost use Rattle.std.specs.Prelude.{◌≡◌, ◌≤◌, ◌/◌, ◌^◌, IfOk, IsErrOf, length, map};
+ghost use Rattle.std.specs.Prelude.{◌≡◌, ◌≤◌, ◌/◌, ◌^◌, IfOk, IsErrOf, Ok, length, map};
 ghost use Rattle.prem_list.specs.Sequence.{items_of};
 ghost use Rattle.prem_io.specs.Counts.{Rose};
 ghost use Rattle.prem_image.specs.Text.{image_text};
@@ -11,15 +11,19 @@ ghost use Rattle.prem_exec.specs.Sources.Sources.{input_of};
 ghost use Rattle.prem_profile.specs.Strips.{first_row, strip_of};
 ghost use Rattle.prem_profile.specs.Sets.{set_lines, strips_of};
 ghost use Rattle.prem_profile.specs.Words.{profile_asked, run_asked};
-ghost use Rattle.prem_profile.specs.Answer.{image_profile, profile_stages, profile_tells, run_stages, sources_of};
+ghost use Rattle.prem_profile.specs.Bound.Billed.{IsBilled};
+ghost use Rattle.prem_profile.specs.Answer.{bound_reply, bound_stages, bound_text, image_profile, profile_stages, profile_tells, run_stages, sources_of};
 
 use crate::account::RowTable;
+use crate::bound::set::{BilledSet, bill_set};
+use crate::bound::text::bill_text;
 use crate::callgrind::{Source, Told, profile_text};
 use crate::calls::functions_of;
 use crate::strip::{Rows, Strip, rows_from};
 use crate::strips::{set_lines, strips_of};
 use crate::tracing::profile;
 use crate::words::{ProfileWords, RunWords};
+use prem_answer::refusal::uncompiled;
 use prem_answer::{Answer, Halt, Status, Telling};
 use prem_compile::{Compiled, TaskSet};
 use prem_exec::sources::{read_run_file, read_set_file, read_sources};
@@ -157,6 +161,55 @@ fn run_answer<S: Store>(alloc: Global, asked: &RunWords, store: &mut S) -> Resul
     tell_set(alloc, &profiling, &set, &input)
 }
 
+/// The profile of the bound of a set that breaks no rule.
+fn bound_text(
+    alloc: Global,
+    set: &TaskSet,
+    sources: &[Source],
+    billed: &BilledSet,
+) -> Result<Vec<u8>, AllocError>
+    requires { IsBilled (set_of set.now) billed.now }
+    ensures { IfOk result (λ text. text.items ≡ bound_text sources.now (set_of set.now)) }
+{
+    let strips = set_strips(alloc, set, &billed.compiled)?;
+    let size = word_count(&billed.compiled.image);
+    bill_text(alloc, sources, &strips, size, &billed.bill)
+}
+
+/// The answer to a set: it is compiled and its bound is told by lines, or the first rule that it breaks is.
+fn set_bound(alloc: Global, set: &TaskSet, sources: &[Source]) -> Result<Answer, Halt>
+    ensures answer { Comes reply_of (λ given. given ≡ Ok (bound_reply sources.now (set_of set.now))) result }
+    ensures unread { IsErrOf result Halt.ReadFault → ⊥ }
+{
+    match bill_set(alloc, set) {
+        Ok(billed) => Ok(Answer {
+            status: Status::Done,
+            text: bound_text(alloc, set, sources, &billed)?,
+        }),
+        Err(fail) => uncompiled(alloc, set, fail),
+    }
+}
+
+/// The profile of a bound: the set's file and its sources are read; the set is compiled and told. The first of these stages that doesn't
+/// go through decides.
+fn bound_answer<S: Store>(alloc: Global, set: &str, store: &mut S) -> Result<Answer, Halt>
+    ensures answer { Comes reply_of (IsGiven (S.files store.old) (bound_stages set.now)) result }
+    ensures fault { IsErrOf result Halt.ReadFault → Rose (S.faults store.old) (S.faults store.new) }
+    ensures later { S.faults store.old ≤ S.faults store.new }
+    ensures same { S.files store.new ≡ S.files store.old }
+{
+    let file = match read_set_file(alloc, Telling::Whole, store, set) {
+        Ok(file) => file,
+        Err(halt) => return Err(halt),
+    };
+    let sources = sources_of(alloc, file.tasks.items())?;
+    let set = match read_sources(alloc, Telling::Whole, store, file) {
+        Ok(set) => set,
+        Err(halt) => return Err(halt),
+    };
+    set_bound(alloc, &set, &sources)
+}
+
 /// The answer to the words, by what is profiled.
 pub(crate) fn profile_answer<S: Store>(
     alloc: Global,
@@ -170,5 +223,6 @@ pub(crate) fn profile_answer<S: Store>(
 {
     match asked {
         ProfileWords::Run(words) => run_answer(alloc, words, store),
+        ProfileWords::Bound(set) => bound_answer(alloc, set, store),
     }
 }

@@ -1,4 +1,21 @@
 //! What the bound of a job is made of: its bill, item by item, on the path that counts most.
+//!
+//! - `bill`: items, and bills of these.
+//! - `pieces`: the bill of pieces at a place.
+//! - `scope`: that of code as one scope.
+//! - `least`: those of statements without marked calls.
+//! - `parted`: those of statements with marked calls.
+//! - `task`: those of the functions of a task, and of a job.
+//! - `set`: a compiled set with the bill of one job of each of its tasks.
+//! - `text`: the profile of a bill.
+mod bill;
 mod laws;
+mod least;
+mod parted;
+mod pieces;
+mod scope;
+pub mod set;
+mod task;
+pub mod text;
 
 pub use laws::{bill_rows_add_up, bills_add_up, bounds_add_up, set_bills_add_up};

@@ -11,7 +11,7 @@ use prem_io::{Sink, Store};
 use std::alloc::Global;
 
 /// The usage line.
-const USAGE: &str = "usage: prem_profile SET RUN [--cycles N]\n";
+const USAGE: &str = "usage: prem_profile SET RUN [--cycles N] | prem_profile --bound SET\n";
 
 /// The program.
 struct ProfileTool;

@@ -1,7 +1,7 @@
 // The words of the command line.
 ghost use Rattle.std.specs.Prelude.{◌≡◌, codes, map, option_map, string_bytes};
 ghost use Rattle.std.specs.Str.{bytes_eq};
-ghost use Rattle.prem_profile.specs.Words.{are_files, asked_of, cycles_of, files_asked, limited, profile_asked};
+ghost use Rattle.prem_profile.specs.Words.{are_files, asked_of, bound_of, cycles_of, files_asked, limited, profile_asked, run_of};
 
 use prem_answer::is_file;
 use prem_line::number_up_to;
@@ -22,6 +22,8 @@ pub struct RunWords<'a> {
 pub enum ProfileWords<'a> {
     /// The run of a set.
     Run(RunWords<'a>),
+    /// The bound of a set in this file.
+    Bound(&'a str),
 }
 
 /// Whether a word is that of the option that tells how far the run goes.
@@ -79,9 +81,32 @@ fn files_asked<'a>(
     }
 }
 
-/// What the words say, without the program's name.
-pub(crate) fn asked_of(words: &[String]) -> Option<ProfileWords<'_>>
-    ensures { option_map profile_asked result ≡ asked_of (map string_bytes words.entry.now) }
+/// Whether a word is that of the option that asks for the bound.
+fn is_bound(word: &str) -> bool
+    ensures { result ≡ bytes_eq word.now (codes "--bound") }
+{
+    word == "--bound"
+}
+
+/// The bound of a set, where only the set's file stands behind the option.
+fn bound_of(words: &[String]) -> Option<ProfileWords<'_>>
+    ensures { option_map profile_asked result ≡ bound_of (map string_bytes words.entry.now) }
+{
+    match words {
+        [set] => {
+            if is_file(set.as_str()) {
+                Some(ProfileWords::Bound(set.as_str()))
+            } else {
+                None
+            }
+        }
+        [] | [_, _, ..] => None,
+    }
+}
+
+/// The run of a set.
+fn run_of(words: &[String]) -> Option<ProfileWords<'_>>
+    ensures { option_map profile_asked result ≡ run_of (map string_bytes words.entry.now) }
 {
     match words {
         [] | [_] => None,
@@ -90,6 +115,22 @@ pub(crate) fn asked_of(words: &[String]) -> Option<ProfileWords<'_>>
                 files_asked(set.as_str(), run.as_str(), cycles_of(words))
             } else {
                 None
+            }
+        }
+    }
+}
+
+/// What the words say, without the program's name.
+pub(crate) fn asked_of(words: &[String]) -> Option<ProfileWords<'_>>
+    ensures { option_map profile_asked result ≡ asked_of (map string_bytes words.entry.now) }
+{
+    match words {
+        [] => None,
+        [first, rest @ ..] => {
+            if is_bound(first.as_str()) {
+                bound_of(rest)
+            } else {
+                run_of(words)
             }
         }
     }

@@ -13,15 +13,16 @@ use std::alloc::{AllocError, Global};
 /// A collection of lines in the sets of the cache.
 #[derive(Clone, Copy)]
 pub struct Crowd {
-    line: u32,
+    /// How many bytes a line has.
+    pub line: u32,
     sets: u32,
     room: u32,
     /// How many lines go into each set.
     counts: [u32; 1024],
     /// Whether all lines of the collection's data have room.
-    roomy: bool,
+    pub roomy: bool,
     /// What a line costs that is brought in.
-    miss: u64,
+    pub miss: u64,
     /// How many lines have room.
     pub held: u64,
     /// Whether all lines have room.
@@ -33,7 +34,7 @@ impl Crowd {
     ghost use Rattle.prem_wcet.specs.Crowds.{IsCache, access_by, fetch_by, has_room};
 
     /// Whether the set of a line has room for all lines that go into it.
-    fn has_room(&self, n: u32) -> bool
+    pub fn has_room(&self, n: u32) -> bool
         requires { IsCache self.now }
         ensures { result ≡ has_room self.now n }
     {

@@ -92,7 +92,7 @@ fn lengths_behind<'a>(mark: &Option<Mark>, lengths: &'a [u32]) -> &'a [u32]
 }
 
 /// Functions as their callers see them, where the marked ones have such lengths.
-fn faces_of(
+pub fn faces_of(
     alloc: Global,
     routines: &[Routine<'_>],
     lengths: &[u32],
@@ -112,7 +112,7 @@ fn faces_of(
 }
 
 /// The frame of a function by its number.
-fn frame_at(faces: &[Face], f: usize) -> u32
+pub fn frame_at(faces: &[Face], f: usize) -> u32
     ensures { result ≡ (face_at faces.now f).frame }
 {
     match faces.get(f) {
@@ -139,7 +139,7 @@ pub fn rule_of(p: &Plant) -> Scale
 }
 
 /// The bytes of the stack that a function's own code may touch: `job` has its frame of so many bytes, each other one a frame below it.
-fn stack_of(places: &TaskPlaces, base: u32, is_job: bool) -> (u32, u32)
+pub fn stack_of(places: &TaskPlaces, base: u32, is_job: bool) -> (u32, u32)
     ensures { result ≡ stack_by places.now base is_job }
 {
     let (low, high) = places.stack_place();
@@ -179,7 +179,7 @@ fn fact_of(
 }
 
 /// The fact of the function behind those that are known.
-fn next_fact(
+pub fn next_fact(
     alloc: Global,
     t: &PlacedTask,
     known: &KnownFunctions,
@@ -215,7 +215,7 @@ fn next_fact(
 }
 
 /// What it costs where all lines are found.
-fn next_cost(t: &PlacedTask, known: &KnownFunctions, p: &Plant) -> u64
+pub fn next_cost(t: &PlacedTask, known: &KnownFunctions, p: &Plant) -> u64
     requires task { StandsWhole p.now t.now }
     requires plant { IsPlant p.now }
     requires there { length known.now.facts.items < length (items_of t.now.table.code) }
@@ -233,7 +233,7 @@ fn next_cost(t: &PlacedTask, known: &KnownFunctions, p: &Plant) -> u64
 }
 
 /// What is known of one more function.
-fn with_next(known: KnownFunctions, fact: Fact, cost: u64) -> Result<KnownFunctions, AllocError>
+pub fn with_next(known: KnownFunctions, fact: Fact, cost: u64) -> Result<KnownFunctions, AllocError>
     requires { length known.facts.items < 256 }
     ensures faces { IfOk result (λ k. k.faces.items ≡ known.faces.items) }
     ensures facts { IfOk result (λ k. k.facts.items ≡ known.facts.items ++ fact ∷ []) }

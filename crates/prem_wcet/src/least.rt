@@ -108,7 +108,7 @@ pub fn inner_place(at: u32, first: &[Piece], head: &[Piece], before: &[Piece]) -
 }
 
 /// Where code stands that follows other code.
-fn behind_code(at: u32, code: &[Piece]) -> u32
+pub fn behind_code(at: u32, code: &[Piece]) -> u32
     requires { at + size_of (pieces_of code.now) < 2 ^ 32 }
     ensures { result ≡ at + size_of (pieces_of code.now) }
 {
@@ -116,7 +116,7 @@ fn behind_code(at: u32, code: &[Piece]) -> u32
 }
 
 /// Where the next statement stands.
-fn next_statement_place(at: u32, part: &Part<'_>) -> u32
+pub fn next_statement_place(at: u32, part: &Part<'_>) -> u32
     requires { at + size_of (part_code part.now) < 2 ^ 32 }
     ensures { result ≡ at + size_of (part_code part.now) }
 {

@@ -37,7 +37,8 @@ pub struct Edge<'a> {
     pub below: Option<(u32, u32)>,
 }
 
-fn no_edge<'a>() -> Edge<'a>
+/// No code.
+pub fn no_edge<'a>() -> Edge<'a>
     ensures { edge_of result ≡ no_edge }
 {
     Edge {
@@ -102,7 +103,7 @@ pub fn fact_parted(scene: &Scene, f: usize) -> PathCount
 }
 
 /// The stated length of a function that is marked.
-fn stated_of(scene: &Scene, f: usize) -> Option<u32>
+pub fn stated_of(scene: &Scene, f: usize) -> Option<u32>
     ensures { result ≡ (face_at scene.now.faces.now f).stated }
 {
     match scene.faces.get(f) {
@@ -146,7 +147,7 @@ fn argument_range(low: u32, frame: u32, count: usize) -> Option<(u32, u32)>
 }
 
 /// What stands before a statement with marked calls: the arguments, where it is a call itself.
-fn passing<'a>(scene: &Scene, part: &'a Part<'_>) -> Edge<'a>
+pub fn passing<'a>(scene: &Scene, part: &'a Part<'_>) -> Edge<'a>
     requires { BelowFits (scene_in scene.now) (part_of part.now) }
     ensures { edge_of result ≡ passing_edge (scene_in scene.now) (part_of part.now) }
 {
@@ -172,7 +173,7 @@ fn passing<'a>(scene: &Scene, part: &'a Part<'_>) -> Edge<'a>
 }
 
 /// Where the passage behind a statement with marked calls begins.
-fn landing_place(at: u32, part: &Part<'_>) -> u32
+pub fn landing_place(at: u32, part: &Part<'_>) -> u32
     requires { landing_place at (part_of part.now) < 2 ^ 32 }
     ensures { result ≡ landing_place at (part_of part.now) }
 {
@@ -185,7 +186,7 @@ fn landing_place(at: u32, part: &Part<'_>) -> u32
 }
 
 /// What stands behind a statement with marked calls: what brings the result to its target, where it is a call itself.
-fn landing<'a>(part: &'a Part<'_>) -> Edge<'a>
+pub fn landing<'a>(part: &'a Part<'_>) -> Edge<'a>
     ensures { edge_of result ≡ landing_edge (part_of part.now) }
 {
     match part {
@@ -356,7 +357,7 @@ fn behind_cut(
 }
 
 /// Where statements end that stand behind other code.
-fn end_of(at: u32, before: &Edge<'_>, parts: &[Part<'_>]) -> u32
+pub fn end_of(at: u32, before: &Edge<'_>, parts: &[Part<'_>]) -> u32
     requires { at + size_of (pieces_of before.now.pieces.now) + size_of (code_of (parts_of parts.now)) < 2 ^ 32 }
     ensures { result ≡ at + size_of (pieces_of before.now.pieces.now) + size_of (code_of (parts_of parts.now)) }
 {
@@ -364,7 +365,7 @@ fn end_of(at: u32, before: &Edge<'_>, parts: &[Part<'_>]) -> u32
 }
 
 /// Where a statement begins that ends at a place.
-fn start_of(end: u32, part: &Part<'_>) -> u32
+pub fn start_of(end: u32, part: &Part<'_>) -> u32
     requires { size_of (part_code part.now) ≤ end }
     ensures { result ≡ end - size_of (part_code part.now) }
 {

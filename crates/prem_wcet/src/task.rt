@@ -38,7 +38,7 @@ pub struct Times {
 }
 
 /// The pieces of the start: a call of `job`, and the job's end.
-fn start_pieces(alloc: Global, job: u16) -> Result<Sequence<Piece>, AllocError>
+pub fn start_pieces(alloc: Global, job: u16) -> Result<Sequence<Piece>, AllocError>
     ensures { IfOk result (λ pieces. pieces_of (items_of pieces) ≡ start_code job) }
 {
     let mut pieces = Sequence::new(alloc);
@@ -48,7 +48,7 @@ fn start_pieces(alloc: Global, job: u16) -> Result<Sequence<Piece>, AllocError>
 }
 
 /// The bytes that the start and `job` run and touch, each range once.
-fn start_ranges(scene: &Scene, job: u16) -> Result<Ranges, AllocError>
+pub fn start_ranges(scene: &Scene, job: u16) -> Result<Ranges, AllocError>
     requires scene { IsScene scene.now }
     requires place { (place_at scene.now.places.now 0).0 + 8 < 2 ^ 32 }
     ensures code { IfOk result (λ r. r.code.items ≡ with_ranges (extent_of (place_at scene.now.places.now 0).0 (start_code job) ∷ []) (fact_of (scene_in scene.now) job).code) }

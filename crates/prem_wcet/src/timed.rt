@@ -54,7 +54,7 @@ pub struct Timed {
 }
 
 /// The stated lengths of marked functions.
-fn stated_of(alloc: Global, t: &PlacedTask) -> Result<Vec<u32>, AllocError>
+pub fn stated_of(alloc: Global, t: &PlacedTask) -> Result<Vec<u32>, AllocError>
     ensures { IfOk result (λ lengths. lengths.items ≡ stated_in t.now) }
 {
     let plans = t.plans.items();

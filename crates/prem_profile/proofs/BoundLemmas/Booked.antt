@@ -3,6 +3,7 @@ use Rattle.std.specs.Prelude.{◌==◌}
 use Rattle.std.proofs.Common.{◌≡◌, ℕ, ◌+◌, ◌<◌, List, [], ◌∷◌, length, map, refl, ap, ap₂, sym, ◌∙◌, arith}
 use Rattle.prem_plant.specs.declared.plant.Plant.{Plant}
 use Rattle.prem_layout.specs.Placed.{Placed}
+use Rattle.prem_bounds.specs.Scale.{clipped}
 use Rattle.prem_wcet_laws.specs.Wcet.{wcet_of}
 use Rattle.prem_profile.specs.declared.cost.Cost.{Cost}
 use Rattle.prem_profile.specs.declared.home.Home.{Home}
@@ -34,7 +35,7 @@ rows_come tasks words rows there (x ∷ bill) =
 pub bill_rows_add_up : BillRowsAddUp
 bill_rows_add_up tasks size strips bill = rows_come tasks (rows_of tasks size strips) (first_row tasks + strip_words strips) (rows_there tasks size strips) bill
 
-all_add_up : (p : Plant) (k : ℕ) (tasks : List Placed) → map cycles_on (bills_from p k tasks) ≡ map (λ t. wcet_of p t.plans t.task.program t.at) tasks
+all_add_up : (p : Plant) (k : ℕ) (tasks : List Placed) → map (λ (bill : Bill). clipped (cycles_on bill)) (bills_from p k tasks) ≡ map (λ t. clipped (wcet_of p t.plans t.task.program t.at)) tasks
 all_add_up p k [] = refl
 all_add_up p k (t ∷ ts) = ap₂ (λ n ns. n ∷ ns) (bills_add_up p t.plans k t.task.program t.at) (all_add_up p (k + 1) ts)
 

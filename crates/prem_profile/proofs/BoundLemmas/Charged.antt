@@ -15,7 +15,7 @@ use Rattle.prem_wcet_laws.specs.Least.{own, own_jump}
 use Rattle.prem_profile.specs.Bound.Bills.{Bill, bill_times}
 use Rattle.prem_profile.specs.Bound.Pieces.{PlaceCost, part_bill}
 use Rattle.prem_profile.specs.Bound.Scopes.{bills_behind, crowd_lines, lines_item, own_bill, own_jump_item, own_test_item, path_bill, rule_cost, scope_bill, scope_bill_with, scope_cost}
-use Rattle.prem_profile.proofs.BoundLemmas.Sums.{Comes, known_come, led, none, part_comes, pieces_come, recount, times}
+use Rattle.prem_profile.proofs.BoundLemmas.Sums.{Comes, known_come, led, no_part, none, part_comes, pieces_come, recount, times}
 
 -- ---- instructions
 
@@ -91,7 +91,7 @@ module _ (e : Scene) where
       let bills : List Bill = bills_behind c e.functions e.places [] e.facts in
       let known : List ℕ = places_behind w e.functions e.places [] e.facts in
       pieces_come w c same (part_bill e.functions bills) (part_weight e.functions (weight_at known) (λ k. 0))
-      (part_comes w c same e.functions bills known (known_come w c same e.functions e.places [] e.facts)) at s.pieces
+      (part_comes w c same e.functions bills known (known_come w c same e.functions e.places [] [] e.facts tt)) at s.pieces
 
   pub scope_comes_with : (at : ℕ) (s : Span) (lines held : List ℕ) → Comes (scope_bill_with e at s lines held) (charge_with e at s lines held)
   scope_comes_with at s lines held =
@@ -126,7 +126,7 @@ module _ (e : Scene) where
 
   pub own_comes : (at : ℕ) (ps : Pieces) → Comes (own_bill e at ps) (own e ps)
   own_comes at ps =
-      recount (own e ps) (pieces_come (λ a. job_weight e.plant) (rule_cost e.plant) (rule_same e.plant) (λ part. []) (λ part. 0) (λ part. none) at ps)
+      recount (own e ps) (pieces_come (λ a. job_weight e.plant) (rule_cost e.plant) (rule_same e.plant) (part_bill 0 []) (λ part. 0) no_part at ps)
       (alike (job_weight e.plant) (λ part. 0) at ps)
 
   pub jump_first : {b : Bill} {n : ℕ} (at : ℕ) → Comes b n → Comes (own_jump_item e at ∷ b) (own_jump e + n)

@@ -45,9 +45,9 @@ module _ (e : Scene) (stubs : Stubs) (known : List CallBill) (calls : (f : ℕ) 
     (parted : (f : ℕ) → Comes (call_at known f).parted (fact_of e f).parted.total) where
   cut_comes : (f : ℕ) → Comes (cut_bill e stubs known f) (called_parted e f).total
   cut_comes f = by (e.marked f) where
-    by : (t : Bool) → Comes (cond t (marked_bill e.plant stubs.task (stubs.places f) e.plans (e.stub f)) (call_at known f).parted)
+    by : (t : Bool) → Comes (cond t (marked_bill e.plant stubs.task (stubs.places (e.stub f)) e.plans (e.stub f)) (call_at known f).parted)
         (cond t (marked_count e.plant e.plans (e.stub f)) (fact_of e f).parted).total
-    by true = marked_comes e.plant stubs.task (stubs.places f) e.plans (e.stub f)
+    by true = marked_comes e.plant stubs.task (stubs.places (e.stub f)) e.plans (e.stub f)
     by false = parted f
 
   -- ---- passages

@@ -16,7 +16,8 @@ use Rattle.prem_layout.proofs.Samples.{m_text, m_turns}
 use Rattle.prem_layout.proofs.Tasks.{coded, placed}
 use Rattle.prem_profile.specs.declared.home.Home.{Home}
 use Rattle.prem_profile.specs.declared.home.Home.TheVariants.{Rest, Switch, At}
-use Rattle.prem_profile.specs.Bound.Bills.{Bill, Item}
+use Rattle.prem_profile.specs.declared.bound.bill.Item.{Item}
+use Rattle.prem_profile.specs.Bound.Bills.{Bill}
 use Rattle.prem_profile.specs.Bound.Pieces.{bill_from}
 use Rattle.prem_profile.specs.Bound.Scopes.{rule_cost}
 use Rattle.prem_profile.specs.Bound.Booked.{bill_row, bills_from}

@@ -1,6 +1,6 @@
 -- The cycles on bills of pieces are the greatest weights over their paths.
 use Rattle.std.specs.Prelude.{nat_le, nat_lt}
-use Rattle.std.proofs.Common.{◌≡◌, ℕ, zero, suc, pos, ◌+◌, ◌*◌, ◌<◌, ◌≤◌, min, max, Bool, true, false, cond, List, [], ◌∷◌, ◌++◌, length, map, refl, ap, sym, ◌∙◌, arith}
+use Rattle.std.proofs.Common.{◌≡◌, ℕ, zero, suc, pos, ◌+◌, ◌*◌, ◌<◌, ◌≤◌, min, max, Bool, true, false, cond, List, [], ◌∷◌, ◌++◌, length, refl, ap, sym, ◌∙◌, arith}
 use Rattle.std.proofs.Math.Nat.{mul-add}
 use Rattle.std.proofs.lemmas.Bool.Decides.{nat_tests}
 use Rattle.prem_isa.specs.declared.instr.Instr.{Instr}
@@ -8,10 +8,13 @@ use Rattle.prem_isa.specs.declared.instr.Instr.TheVariants.{Lui, Jal, OpImm}
 use Rattle.prem_isa.specs.declared.instr.AluOp.TheVariants.{Add}
 use Rattle.prem_asm.specs.Pieces.{Pieces, no_pieces, straight, address_of, either, repeat, call_to, branch_of, skip_words, skip_at, other_at, either_end, test_at, back_at, repeat_end}
 use Rattle.prem_layout.specs.Bounds.{part_weight, weight_at}
+use Rattle.prem_bounds.specs.Scale.{clipped}
 use Rattle.prem_layout.specs.Parts.{code_part}
 use Rattle.prem_wcet_laws.specs.Scopes.{Fact, places_behind}
 use Rattle.prem_wcet_laws.specs.Weights.{PlaceWeight, weight_from, jump_from, weighted_from}
-use Rattle.prem_profile.specs.Bound.Bills.{Item, Bill, bill_times, cheaper, cycles_on, dearer}
+use Rattle.prem_wcet.proofs.AlikeScopes.{alike_max, alike_min, alike_product, alike_sum}
+use Rattle.prem_profile.specs.declared.bound.bill.Item.{Item}
+use Rattle.prem_profile.specs.Bound.Bills.{Bill, bill_times, cheaper, cycles_on, dearer}
 use Rattle.prem_profile.specs.Bound.Pieces.{PlaceCost, bill_at, bill_from, item, jump_item, part_bill, straight_bill}
 use Rattle.prem_profile.specs.Bound.Scopes.{bills_behind}
 
@@ -32,66 +35,98 @@ is_most m n e = grind (arith, nat_tests)
 is_above : (m n : ℕ) → nat_le m n ≡ false → n < m
 is_above m n e = grind (arith, nat_tests)
 
--- ---- bills that come to so many cycles
+-- ---- bills that come to so many cycles, as these are told
 
 pub record Comes (bill : Bill) (n : ℕ) : Type 0 where
-  pub is : cycles_on bill ≡ n
+  pub is : clipped (cycles_on bill) ≡ clipped n
 
 pub recount : {a : Bill} {m : ℕ} (n : ℕ) → Comes a m → m ≡ n → Comes a n
-recount n c e = record { is = c.is ∙ e }
+recount n c e = record { is = c.is ∙ ap clipped e }
 
 pub none : Comes [] 0
 none = record { is = refl }
 
 pub led : {b : Bill} {n : ℕ} (x : Item) (m : ℕ) → x.cost.cycles ≡ m → Comes b n → Comes (x ∷ b) (m + n)
-led x m e c = record { is = λ i. e i + c.is i }
+led {b} {n} x m e c = record { is = alike_sum x.cost.cycles m (cycles_on b) n (ap clipped e) c.is }
 
-on_append : (a b : Bill) → cycles_on (a ++ b) ≡ cycles_on a + cycles_on b
+pub on_append : (a b : Bill) → cycles_on (a ++ b) ≡ cycles_on a + cycles_on b
 on_append [] b = omega arith
 on_append (x ∷ a) b = ap (λ n. x.cost.cycles + n) (on_append a b) ∙ same_then x.cost.cycles (cycles_on a) (cycles_on b)
 
 pub both : {a b : Bill} {m n : ℕ} → Comes a m → Comes b n → Comes (a ++ b) (m + n)
-both {a} {b} c d = record { is = on_append a b ∙ (λ i. c.is i + d.is i) }
+both {a} {b} {m} {n} c d = record { is = ap clipped (on_append a b) ∙ alike_sum (cycles_on a) m (cycles_on b) n c.is d.is }
 
 pub three : {a b c : Bill} {k m n : ℕ} → Comes a k → Comes b m → Comes c n → Comes (a ++ (b ++ c)) (k + m + n)
 three {a} {b} {c} {k} {m} {n} x y z = recount (k + m + n) (both x (both y z)) (same_then k m n)
 
-on_times : (n : ℕ) (a : Bill) → cycles_on (bill_times n a) ≡ n * cycles_on a
+twice : (k : ℕ) → clipped (clipped k) ≡ clipped k
+twice k = omega arith
+
+on_times : (n : ℕ) (a : Bill) → clipped (cycles_on (bill_times n a)) ≡ clipped (n * cycles_on a)
 on_times n [] = omega arith
-on_times n (x ∷ a) = ap (λ k. n * x.cost.cycles + k) (on_times n a) ∙ sym (mul-add n x.cost.cycles (cycles_on a))
+on_times n (x ∷ a) =
+    alike_sum (clipped (n * x.cost.cycles)) (n * x.cost.cycles) (cycles_on (bill_times n a)) (n * cycles_on a) (twice (n * x.cost.cycles)) (on_times n a)
+    ∙ ap clipped (sym (mul-add n x.cost.cycles (cycles_on a)))
 
 pub times : {a : Bill} {m : ℕ} (n : ℕ) → Comes a m → Comes (bill_times n a) (n * m)
-times {a} n c = record { is = on_times n a ∙ ap (λ k. n * k) c.is }
+times {a} {m} n c = record { is = on_times n a ∙ alike_product n (cycles_on a) m c.is }
 
-on_dearer : (a b : Bill) → cycles_on (dearer a b) ≡ max (cycles_on a) (cycles_on b)
-on_dearer a b = by (nat_lt (cycles_on a) (cycles_on b)) refl where
-  second : (m n : ℕ) → m < n → n ≡ max m n
+on_dearer : (a b : Bill) → clipped (cycles_on (dearer a b)) ≡ clipped (max (cycles_on a) (cycles_on b))
+on_dearer a b = by (nat_lt (clipped (cycles_on a)) (clipped (cycles_on b))) refl where
+  second : (m n : ℕ) → clipped m < clipped n → clipped n ≡ clipped (max m n)
   second m n lt = omega (arith, lt)
 
-  first : (m n : ℕ) → n ≤ m → m ≡ max m n
+  first : (m n : ℕ) → clipped n ≤ clipped m → clipped m ≡ clipped (max m n)
   first m n le = omega (arith, le)
 
-  by : (t : Bool) → nat_lt (cycles_on a) (cycles_on b) ≡ t → cycles_on (cond t b a) ≡ max (cycles_on a) (cycles_on b)
-  by true e = second (cycles_on a) (cycles_on b) (is_less (cycles_on a) (cycles_on b) e)
-  by false e = first (cycles_on a) (cycles_on b) (is_more (cycles_on a) (cycles_on b) e)
+  by : (t : Bool) → nat_lt (clipped (cycles_on a)) (clipped (cycles_on b)) ≡ t → clipped (cycles_on (cond t b a)) ≡ clipped (max (cycles_on a) (cycles_on b))
+  by true e = second (cycles_on a) (cycles_on b) (is_less (clipped (cycles_on a)) (clipped (cycles_on b)) e)
+  by false e = first (cycles_on a) (cycles_on b) (is_more (clipped (cycles_on a)) (clipped (cycles_on b)) e)
 
 pub more : {a b : Bill} {m n : ℕ} → Comes a m → Comes b n → Comes (dearer a b) (max m n)
-more {a} {b} c d = record { is = on_dearer a b ∙ (λ i. max (c.is i) (d.is i)) }
+more {a} {b} {m} {n} c d = record { is = on_dearer a b ∙ alike_max (cycles_on a) m (cycles_on b) n c.is d.is }
 
-on_cheaper : (a b : Bill) → cycles_on (cheaper a b) ≡ min (cycles_on a) (cycles_on b)
-on_cheaper a b = by (nat_le (cycles_on a) (cycles_on b)) refl where
-  first : (m n : ℕ) → m ≤ n → m ≡ min m n
+on_cheaper : (a b : Bill) → clipped (cycles_on (cheaper a b)) ≡ clipped (min (cycles_on a) (cycles_on b))
+on_cheaper a b = by (nat_le (clipped (cycles_on a)) (clipped (cycles_on b))) refl where
+  first : (m n : ℕ) → clipped m ≤ clipped n → clipped m ≡ clipped (min m n)
   first m n le = omega (arith, le)
 
-  second : (m n : ℕ) → n < m → n ≡ min m n
+  second : (m n : ℕ) → clipped n < clipped m → clipped n ≡ clipped (min m n)
   second m n lt = omega (arith, lt)
 
-  by : (t : Bool) → nat_le (cycles_on a) (cycles_on b) ≡ t → cycles_on (cond t a b) ≡ min (cycles_on a) (cycles_on b)
-  by true e = first (cycles_on a) (cycles_on b) (is_most (cycles_on a) (cycles_on b) e)
-  by false e = second (cycles_on a) (cycles_on b) (is_above (cycles_on a) (cycles_on b) e)
+  by : (t : Bool) → nat_le (clipped (cycles_on a)) (clipped (cycles_on b)) ≡ t → clipped (cycles_on (cond t a b)) ≡ clipped (min (cycles_on a) (cycles_on b))
+  by true e = first (cycles_on a) (cycles_on b) (is_most (clipped (cycles_on a)) (clipped (cycles_on b)) e)
+  by false e = second (cycles_on a) (cycles_on b) (is_above (clipped (cycles_on a)) (clipped (cycles_on b)) e)
 
 pub less : {a b : Bill} {m n : ℕ} → Comes a m → Comes b n → Comes (cheaper a b) (min m n)
-less {a} {b} c d = record { is = on_cheaper a b ∙ (λ i. min (c.is i) (d.is i)) }
+less {a} {b} {m} {n} c d = record { is = on_cheaper a b ∙ alike_min (cycles_on a) m (cycles_on b) n c.is d.is }
+
+-- bills that come to these numbers, in the same order
+abbrev pub AreComing : List Bill → List ℕ → Type 0
+AreComing [] [] = Unit {0}
+AreComing [] (n ∷ ns) = ⊥
+AreComing (b ∷ bs) [] = ⊥
+AreComing (b ∷ bs) (n ∷ ns) = Comes b n × AreComing bs ns
+
+coming_at : (bs : List Bill) (ns : List ℕ) → AreComing bs ns → (k : ℕ) → Comes (bill_at bs k) (weight_at ns k)
+coming_at [] [] h zero = none
+coming_at [] [] h (suc k) = none
+coming_at [] (n ∷ ns) h k = absurd h
+coming_at (b ∷ bs) [] h k = absurd h
+coming_at (b ∷ bs) (n ∷ ns) h zero = h.0
+coming_at (b ∷ bs) (n ∷ ns) h (suc k) = coming_at bs ns h.1 k
+
+coming_more : (bs : List Bill) (ns : List ℕ) (b : Bill) (n : ℕ) → AreComing bs ns → Comes b n → AreComing (bs ++ b ∷ []) (ns ++ n ∷ [])
+coming_more [] [] b n h one = (one, tt)
+coming_more [] (m ∷ ns) b n h one = absurd h
+coming_more (c ∷ bs) [] b n h one = absurd h
+coming_more (c ∷ bs) (m ∷ ns) b n h one = (h.0, coming_more bs ns b n h.1 one)
+
+as_long : (bs : List Bill) (ns : List ℕ) → AreComing bs ns → length bs ≡ length ns
+as_long [] [] h = refl
+as_long [] (n ∷ ns) h = absurd h
+as_long (b ∷ bs) [] h = absurd h
+as_long (b ∷ bs) (n ∷ ns) h = ap suc (as_long bs ns h.1)
 
 -- ---- pieces
 
@@ -152,37 +187,35 @@ module _ (w : PlaceWeight) (c : PlaceCost) (same : (at : ℕ) (i : Instr) → (c
 
   -- ---- called parts
 
-  at_comes : (bills : List Bill) (n : ℕ) → Comes (bill_at bills n) (weight_at (map cycles_on bills) n)
-  at_comes [] zero = none
-  at_comes [] (suc n) = none
-  at_comes (b ∷ bills) zero = record { is = refl }
-  at_comes (b ∷ bills) (suc n) = at_comes bills n
-
-  pub part_comes : (functions : ℕ) (bills : List Bill) (known : List ℕ) → map cycles_on bills ≡ known → (part : ℕ) →
+  pub part_comes : (functions : ℕ) (bills : List Bill) (known : List ℕ) → AreComing bills known → (part : ℕ) →
       Comes (part_bill functions bills part) (part_weight functions (weight_at known) (λ k. 0) part)
-  part_comes functions bills known e zero = none
-  part_comes functions bills known e (suc n) = by (nat_lt n functions) where
+  part_comes functions bills known h zero = none
+  part_comes functions bills known h (suc n) = by (nat_lt n functions) where
     by : (t : Bool) → Comes (cond t (bill_at bills n) []) (cond t (weight_at known n) 0)
-    by true = recount (weight_at known n) (at_comes bills n) (ap (λ ws. weight_at ws n) e)
+    by true = coming_at bills known h n
     by false = none
 
-  one_more : (bills : List Bill) (b : Bill) → map cycles_on (bills ++ b ∷ []) ≡ map cycles_on bills ++ cycles_on b ∷ []
-  one_more [] b = refl
-  one_more (x ∷ bills) b = ap (λ ns. cycles_on x ∷ ns) (one_more bills b)
-
-  as_long : (bills : List Bill) → length bills ≡ length (map cycles_on bills)
-  as_long [] = refl
-  as_long (b ∷ bills) = ap suc (as_long bills)
-
-  pub known_come : (functions : ℕ) (places : ℕ → ℕ) (bills : List Bill) (fs : List Fact) →
-      map cycles_on (bills_behind c functions places bills fs) ≡ places_behind w functions places (map cycles_on bills) fs
-  known_come functions places bills [] = refl
-  known_come functions places bills (f ∷ fs) =
-      let known : List ℕ = map cycles_on bills in
+  pub known_come : (functions : ℕ) (places : ℕ → ℕ) (bills : List Bill) (known : List ℕ) (fs : List Fact) → AreComing bills known →
+      AreComing (bills_behind c functions places bills fs) (places_behind w functions places known fs)
+  known_come functions places bills known [] h = h
+  known_come functions places bills known (f ∷ fs) h =
+      let calls : ℕ → ℕ = part_weight functions (weight_at known) (λ k. 0) in
       let at : ℕ = places (code_part (length bills)) in
       let next : Bill = bill_from c (part_bill functions bills) at f.pieces in
-      let calls : ℕ → ℕ = part_weight functions (weight_at known) (λ k. 0) in
-      let comes = pieces_come (part_bill functions bills) calls (part_comes functions bills known refl) at f.pieces in
-      known_come functions places (bills ++ next ∷ []) fs
-      ∙ ap (λ ns. places_behind w functions places ns fs)
-      (one_more bills next ∙ ap (λ n. known ++ n ∷ []) (comes.is ∙ ap (λ n. weighted_from w calls (places (code_part n)) f.pieces) (as_long bills)))
+      let n : ℕ = weighted_from w calls (places (code_part (length known))) f.pieces in
+      known_come functions places (bills ++ next ∷ []) (known ++ n ∷ []) fs
+      (coming_more bills known next n h
+      (recount n (pieces_come (part_bill functions bills) calls (part_comes functions bills known h) at f.pieces)
+      (ap (λ k. weighted_from w calls (places (code_part k)) f.pieces) (as_long bills known h))))
+
+-- no function is called
+none_at : (n : ℕ) → Comes (bill_at [] n) 0
+none_at zero = none
+none_at (suc n) = none
+
+pub no_part : (part : ℕ) → Comes (part_bill 0 [] part) 0
+no_part zero = none
+no_part (suc n) = by (nat_lt n 0) where
+  by : (t : Bool) → Comes (cond t (bill_at [] n) []) 0
+  by true = none_at n
+  by false = none

@@ -2,6 +2,7 @@
 use Rattle.std.specs.Prelude.{◌≡◌, ℕ, ◌+◌, Bool, List, [], ◌∷◌, map}
 use Rattle.prem_plant.specs.declared.plant.Plant.{Plant}
 use Rattle.prem_layout.specs.Placed.{Placed}
+use Rattle.prem_bounds.specs.Scale.{clipped}
 use Rattle.prem_wcet_laws.specs.Wcet.{wcet_of}
 use Rattle.prem_profile.specs.declared.cost.Cost.{Cost}
 use Rattle.prem_profile.specs.declared.home.Home.{Home}
@@ -35,6 +36,6 @@ abbrev pub bills_from : Plant → (task : ℕ) → List Placed → List Bill
 bills_from p task [] = []
 bills_from p task (t ∷ ts) = task_bill p t.plans task t.task.program t.at ∷ bills_from p (task + 1) ts
 
--- each comes to what a job of the task takes at most
+-- each comes to what a job of the task takes at most, as numbers are told
 abbrev pub SetBillsAddUp : Type 0
-SetBillsAddUp = (p : Plant) (tasks : List Placed) → map cycles_on (bills_from p 0 tasks) ≡ map (λ t. wcet_of p t.plans t.task.program t.at) tasks
+SetBillsAddUp = (p : Plant) (tasks : List Placed) → map (λ (bill : Bill). clipped (cycles_on bill)) (bills_from p 0 tasks) ≡ map (λ t. clipped (wcet_of p t.plans t.task.program t.at)) tasks

@@ -10,14 +10,15 @@ use Rattle.prem_wcet_laws.specs.Parted.{Edge, by_cut, no_edge}
 use Rattle.prem_wcet.specs.Outlines.{Outline, ended, plain, calling, choice, turning, between, code_of, cut_in, data_between, edge_in, first_place, front_in, inner_place, landing_in, second_place}
 use Rattle.prem_profile.specs.declared.home.Home.{Home}
 use Rattle.prem_profile.specs.declared.home.Home.TheVariants.{At, Switch}
-use Rattle.prem_profile.specs.Bound.Bills.{Item, Bill, cheaper}
+use Rattle.prem_profile.specs.declared.bound.bill.Item.{Item}
+use Rattle.prem_profile.specs.Bound.Bills.{Bill, cheaper}
 use Rattle.prem_profile.specs.Bound.Pieces.{item}
 use Rattle.prem_profile.specs.Bound.Scopes.{own_bill, own_jump_item, rule_cost, scope_bill_with}
 use Rattle.prem_profile.specs.Bound.Statements.{CallBill, call_at, choice_bill, head_end, inner_end, least_bill, over_place, turns_bill}
 
 -- ---- marked calls
 
--- the number of a task, and where the stub of each of its functions stands
+-- the number of a task, and where the stub of each of its marked functions stands
 pub record Stubs : Type 0 where
   pub task : ℕ
   pub places : ℕ → ℕ
@@ -43,7 +44,7 @@ marked_bill p task at (plan ∷ plans) (suc k) = marked_bill p task at plans k
 
 -- a call in which a marked one is, or which is one
 abbrev pub cut_bill : Scene → Stubs → List CallBill → ℕ → Bill
-cut_bill e stubs known f = if e.marked f then marked_bill e.plant stubs.task (stubs.places f) e.plans (e.stub f) else (call_at known f).parted
+cut_bill e stubs known f = if e.marked f then marked_bill e.plant stubs.task (stubs.places (e.stub f)) e.plans (e.stub f) else (call_at known f).parted
 
 -- ---- passages
 

@@ -1,23 +1,22 @@
 -- The bill of pieces at a place: the greatest weight over their paths, word by word. Of a choice it has the dearer side, and of a loop all turns.
 use Rattle.std.specs.Prelude.{ℕ, zero, suc, pos, ◌+◌, ◌*◌, nat_lt, if◌then◌else◌, List, [], ◌∷◌, ◌++◌, length, slice_index_or}
-use Rattle.prem_plant.specs.declared.plant.Plant.{Plant}
 use Rattle.prem_isa.specs.declared.instr.Instr.{Instr}
 use Rattle.prem_isa.specs.declared.instr.Instr.TheVariants.{Lui, Jal, OpImm}
 use Rattle.prem_isa.specs.declared.instr.AluOp.TheVariants.{Add}
 use Rattle.prem_isa.specs.Decode.{cost_of}
 use Rattle.prem_asm.specs.Pieces.{Pieces, no_pieces, straight, address_of, either, repeat, call_to, branch_of, skip_words, skip_at, other_at, either_end, test_at, back_at, repeat_end}
-use Rattle.prem_layout.specs.Bounds.{line_cost}
 use Rattle.prem_profile.specs.declared.cost.Cost.{Cost}
 use Rattle.prem_profile.specs.declared.home.Home.TheVariants.{At}
-use Rattle.prem_profile.specs.Bound.Bills.{Item, Bill, bill_times, dearer}
+use Rattle.prem_profile.specs.declared.bound.bill.Item.{Item}
+use Rattle.prem_profile.specs.Bound.Bills.{Bill, bill_times, dearer}
 
 -- what an instruction at a place costs
 abbrev pub PlaceCost : Type 0
 PlaceCost = ℕ → Instr → Cost
 
--- an instruction for which so many lines are brought in, each behind one that is written back
-abbrev pub instruction_cost : Plant → (lines : ℕ) → Instr → Cost
-instruction_cost p lines i = record { instructions = 1; cycles = cost_of i + lines * line_cost p; misses = lines; backs = lines }
+-- an instruction for which so many lines are brought in, each behind one that is written back, for so many cycles
+abbrev pub instruction_cost : (miss lines : ℕ) → Instr → Cost
+instruction_cost miss lines i = record { instructions = 1; cycles = cost_of i + lines * miss; misses = lines; backs = lines }
 
 abbrev pub item : PlaceCost → (at : ℕ) → Instr → Item
 item c at i = record { home = At at; cost = c at i }

@@ -1,5 +1,5 @@
 -- The profile of a set's bound: one job of each task on the path that counts most, in callgrind's format.
-use Rattle.std.specs.Prelude.{◌≡◌, ℕ, ◌+◌, List, [], ◌∷◌, ◌++◌, length}
+use Rattle.std.specs.Prelude.{◌≡◌, ◌≤◌, ◌^◌, ℕ, ◌+◌, List, [], ◌∷◌, ◌++◌, length}
 use Rattle.prem_plant.specs.declared.plant.Plant.{Plant}
 use Rattle.prem_layout.specs.Placed.{Placed}
 use Rattle.prem_wcet_laws.specs.Wcet.{wcet_of}
@@ -39,5 +39,10 @@ pub record IsBound (text : List ℕ) (p : Plant) (tasks : List Placed) : Type 0 
   pub lines : entries_sum entries ≡ sums
   pub cycles : sums.cycles ≡ wcets p tasks
 
+-- each of which is small enough to be told
+abbrev pub AreShort : Plant → List Placed → Type 0
+AreShort p [] = Unit {0}
+AreShort p (t ∷ ts) = (wcet_of p t.plans t.task.program t.at ≤ 2 ^ 40) × AreShort p ts
+
 abbrev pub BoundsAddUp : Type 0
-BoundsAddUp = (sources : List Source) (strips : List Strip) (size : ℕ) (p : Plant) (tasks : List Placed) → IsBound (bound_profile sources strips size p tasks) p tasks
+BoundsAddUp = (sources : List Source) (strips : List Strip) (size : ℕ) (p : Plant) (tasks : List Placed) → AreShort p tasks → IsBound (bound_profile sources strips size p tasks) p tasks

@@ -10,7 +10,8 @@ use Rattle.prem_layout.specs.Bounds.{line_cost}
 use Rattle.prem_layout.specs.Parts.{code_part}
 use Rattle.prem_wcet_laws.specs.Scopes.{Span, Fact, Scene, is_roomy, roomy_lines, lines_in, data_lines}
 use Rattle.prem_profile.specs.declared.home.Home.TheVariants.{At}
-use Rattle.prem_profile.specs.Bound.Bills.{Item, Bill}
+use Rattle.prem_profile.specs.declared.bound.bill.Item.{Item}
+use Rattle.prem_profile.specs.Bound.Bills.{Bill}
 use Rattle.prem_profile.specs.Bound.Pieces.{PlaceCost, instruction_cost, item, jump_item, bill_from, part_bill}
 
 -- ---- as one scope
@@ -26,7 +27,7 @@ scope_misses p lines data_roomy at (Store op rs1 rs2 offset) = crowd_lines (is_r
 scope_misses p lines data_roomy at i = crowd_lines (is_roomy p lines (at / p.line))
 
 abbrev pub scope_cost : Plant → (lines : List ℕ) → (data_roomy : Bool) → PlaceCost
-scope_cost p lines data_roomy at i = instruction_cost p (scope_misses p lines data_roomy at i) i
+scope_cost p lines data_roomy at i = instruction_cost (line_cost p) (scope_misses p lines data_roomy at i) i
 
 -- the bills of functions in the order of the text, behind those that are known
 abbrev pub bills_behind : PlaceCost → (functions : ℕ) → (places : ℕ → ℕ) → List Bill → List Fact → List Bill
@@ -58,11 +59,11 @@ rule_misses (Store op rs1 rs2 offset) = 2
 rule_misses i = 1
 
 abbrev pub rule_cost : Plant → PlaceCost
-rule_cost p at i = instruction_cost p (rule_misses i) i
+rule_cost p at i = instruction_cost (line_cost p) (rule_misses i) i
 
 -- code that calls nothing
 abbrev pub own_bill : Scene → (at : ℕ) → Pieces → Bill
-own_bill e at ps = bill_from (rule_cost e.plant) (λ part. []) at ps
+own_bill e at ps = bill_from (rule_cost e.plant) (part_bill 0 []) at ps
 
 abbrev pub own_jump_item : Scene → (at : ℕ) → Item
 own_jump_item e at = jump_item (rule_cost e.plant) at

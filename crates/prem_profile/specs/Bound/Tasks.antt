@@ -8,8 +8,8 @@ use Rattle.prem_asm.specs.Pieces.{size_of}
 use Rattle.prem_layout.specs.Template.Frames.{locals_of}
 use Rattle.prem_layout.specs.Template.Steps.{steps_code}
 use Rattle.prem_layout.specs.Plans.{Plan}
-use Rattle.prem_layout.specs.Parts.{code_part, start_part}
-use Rattle.prem_layout.specs.Footprint.{TaskPlaces, stub_range}
+use Rattle.prem_layout.specs.Parts.{code_part, start_part, stub_part}
+use Rattle.prem_layout.specs.Footprint.{TaskPlaces, place_at}
 use Rattle.prem_wcet_laws.specs.Scopes.{Fact, Scene, fact_of, function_span}
 use Rattle.prem_wcet_laws.specs.Parted.{entry, leaving}
 use Rattle.prem_wcet_laws.specs.Wcet.{at_function, fact_at, known_scene, scene_of, stack_of, start_span}
@@ -58,7 +58,7 @@ job_bill e known program =
 
 -- of a task that has such a number
 abbrev pub stubs_of : (task : ℕ) → TaskPlaces → Stubs
-stubs_of task t = record { task = task; places = λ f. (stub_range t f).0 }
+stubs_of task t = record { task = task; places = λ k. (place_at t (stub_part t.functions k)).0 }
 
 abbrev pub task_bill : Plant → List Plan → (task : ℕ) → Resolved → TaskPlaces → Bill
 task_bill p plans task program t =

@@ -3,7 +3,7 @@ ghost use Rattle.prem_profile.specs.Bound.Booked.{BillRowsAddUp, SetBillsAddUp};
 ghost use Rattle.prem_profile.specs.Bound.Laws.{BillsAddUp};
 ghost use Rattle.prem_profile.specs.Bound.Profile.{BoundsAddUp};
 
-/// The bill of a job comes to what it takes at most, wherever the parts of its task stand, and whatever is stated of its marked functions.
+/// The bill of a job comes to what it takes at most, told up to 2^41, wherever the parts of its task stand, and whatever is stated of its marked functions.
 #[tactic(auto, using(crate::proofs::BoundLemmas::Tasks::bills_add_up))]
 pub fn bills_add_up()
     ensures { BillsAddUp }
@@ -15,13 +15,14 @@ pub fn bill_rows_add_up()
     ensures { BillRowsAddUp }
 {}
 
-/// Of each task of a set the bill comes to what a job of it takes at most.
+/// Of each task of a set the bill comes to what a job of it takes at most, told up to 2^41.
 #[tactic(auto, using(crate::proofs::BoundLemmas::Booked::set_bills_add_up))]
 pub fn set_bills_add_up()
     ensures { SetBillsAddUp }
 {}
 
-/// The profile of a set's bound keeps to the grammar of callgrind's format, and its lines add up to what one job of each task takes at most.
+/// The profile of a set's bound keeps to the grammar of callgrind's format, and its lines add up to what one job of each task takes at most, where
+/// each is at most 2^40.
 #[tactic(auto, using(crate::proofs::BoundLemmas::Profile::bounds_add_up))]
 pub fn bounds_add_up()
     ensures { BoundsAddUp }

@@ -1,0 +1,15 @@
+pub mod Pieces
+pub mod Alike
+pub mod Functions
+pub mod Ends
+pub mod Scopes
+pub mod Statements
+pub mod Places
+pub mod Cut
+pub mod Marked
+pub mod Known
+pub mod Job
+pub mod Lean
+pub mod Default
+pub mod Booked
+pub mod Told

@@ -1,0 +1,7 @@
+use Rattle.std.proofs.Common.{◌≡◌, ◌++◌, drop}
+use Rattle.prem_profile.specs.Bound.Bills.{bill_times}
+use Rattle.prem_profile.proofs.bound.bill.append_times.Given as goal
+
+-- what is there, and what is left
+abbrev pub invariant-items : goal.invariant-items
+invariant-items l = l.bill.items ++ bill_times l.n (drop l.item-index l.more) ≡ l.initial.bill.items ++ bill_times l.n l.more
