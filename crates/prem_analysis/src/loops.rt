@@ -1,24 +1,24 @@
 // Loops are entered.
-ghost use Rattle.std.specs.Prelude.{◌≡◌, ◌++◌, ◌∷◌, ◌≤ℤ◌, pos, negsuc, true, false, length, IfOk, OnOk};
+ghost use Rattle.std.specs.Prelude.{◌≡◌, ◌++◌, ◌∷◌, true, length, IfOk, OnOk};
 ghost use Rattle.prem_tree.specs.Resolve.ResolvedOf.{term_of};
-ghost use Rattle.prem_ranges.specs.Environment.{at_local, with_range};
 ghost use Rattle.prem_ranges.specs.RangeOf.{refined};
 ghost use Rattle.prem_ranges.specs.RangeRules.{first_of};
 ghost use Rattle.prem_ranges.specs.RangeBreaches.{in_term};
-ghost use Rattle.prem_ranges.specs.After.{loop_end, body_range, range_behind, in_body, behind_loop, in_while};
-ghost use Rattle.prem_ranges.specs.Saves.Saves.{named, few_or_all, saved, saved_few, restored};
-ghost use Rattle.prem_analysis.specs.Ranging.View.{span_of, env_of, found_of, saves_of};
+ghost use Rattle.prem_ranges.specs.After.{loop_end, in_body, behind_loop, in_while};
+ghost use Rattle.prem_ranges.specs.Saves.Saves.{named, few_or_all, saved_few};
+ghost use Rattle.prem_analysis.specs.Ranging.View.{env_of, found_of, saves_of};
 ghost use Rattle.prem_analysis.specs.Ranging.SiteOf.{site_of};
 ghost use Rattle.prem_analysis.specs.Ranging.Plain.{plain};
 ghost use Rattle.prem_analysis.specs.Ranging.Targets.{targets};
 ghost use Rattle.prem_analysis.specs.Seen.{seen_of, noted, counted};
 ghost use Rattle.prem_analysis.specs.Arms.{capped, at_term, at_counting, at_while, bound_of};
 
-use crate::known::{at_condition, at_counting, at_range, at_while, put_back};
-use crate::locals::{locals_of_counting, locals_of_if, locals_of_while};
+use crate::entering::{Arms, Counting, enter_body};
+use crate::known::{at_condition, at_counting, at_while};
+use crate::locals::{locals_of_if, locals_of_while};
 use crate::ranging::{
-    Broken, Known, Range, Saved, Site, body_range, end_of, in_counting_loop, in_term, in_turns,
-    range_behind, range_of, save, times, turn_bound,
+    Broken, Known, Saved, Site, end_of, in_counting_loop, in_term, in_turns, range_of, save, times,
+    turn_bound,
 };
 use crate::seen::Seen;
 use prem_syntax::Place;
@@ -31,13 +31,6 @@ use std::alloc::{AllocError, Global};
 pub struct Inner {
     pub around: u64,
     pub behind: Vec<Saved>,
-}
-
-/// An `if` that is entered: the locals that differ in its arms, or all of them, and what was known of them before it.
-#[derive(Drop)]
-pub struct Arms {
-    pub locals: Vec<usize>,
-    pub before: Vec<Saved>,
 }
 
 /// The first rule that an expression breaks. What is known stays the same.
@@ -68,18 +61,6 @@ pub fn look(
     Ok(())
 }
 
-/// A counting loop as it stands in the text.
-#[derive(Clone, Copy)]
-pub struct Counting<'a> {
-    pub at: Place,
-    pub number: usize,
-    pub low: &'a Term,
-    pub closed: bool,
-    pub high: &'a Term,
-    pub step: u32,
-    pub body: &'a Step,
-}
-
 /// What is seen of a counting loop's head.
 fn see_counting(
     alloc: Global,
@@ -98,27 +79,6 @@ fn see_counting(
     seen.note(in_low);
     look(alloc, site, env, seen, high)?;
     seen.count(bound)
-}
-
-/// Enters a counting loop's body: gives what is known behind the loop of the locals that differ in it.
-#[tactic(auto, using(crate::proofs::InPlace::set_again))]
-fn enter_body(
-    alloc: Global,
-    env: &mut Vec<Known>,
-    l: &Counting,
-    first: Range,
-    end: i64,
-) -> Result<Vec<Saved>, AllocError>
-    requires least { negsuc 2147483647 ≤ℤ end }
-    requires greatest { end ≤ℤ pos 4294967296 }
-    ensures behind { IfOk result (λ behind. saves_of behind.items ≡ saved_few (at_local l.now.number (with_range (range_behind (span_of first) end l.now.step)) (env_of env.old.items)) (l.now.number ∷ targets l.now.body.now)) }
-    ensures env { OnOk result (env_of env.new.items ≡ at_local l.now.number (with_range (body_range (span_of first) end)) (env_of env.old.items)) }
-{
-    at_range(env, l.number, range_behind(first, end, l.step));
-    let locals = locals_of_counting(alloc, env, l.number, l.body)?;
-    let behind = save(alloc, env, &locals)?;
-    at_range(env, l.number, body_range(first, end));
-    Ok(behind)
 }
 
 /// Enters a counting loop. What is known becomes what is known in its body.
@@ -200,20 +160,4 @@ pub fn enter_if(
     let before = save(alloc, env, &locals)?;
     at_condition(true, env, condition);
     Ok(Arms { locals, before })
-}
-
-/// Enters the other arm of an `if`: gives what is known behind the first. What is known becomes what is known in the other.
-pub fn enter_other(
-    alloc: Global,
-    env: &mut Vec<Known>,
-    condition: &Term,
-    arms: &Arms,
-) -> Result<Vec<Saved>, AllocError>
-    ensures behind { IfOk result (λ behind. saves_of behind.items ≡ saved (env_of env.old.items) arms.now.locals.items) }
-    ensures env { OnOk result (env_of env.new.items ≡ refined false (restored (saves_of arms.now.before.items) (env_of env.old.items)) (term_of condition.now)) }
-{
-    let behind = save(alloc, env, &arms.locals)?;
-    put_back(env, &arms.before);
-    at_condition(false, env, condition);
-    Ok(behind)
 }

@@ -6,8 +6,9 @@ ghost use Rattle.prem_analysis.specs.Ranging.SiteOf.{site_of};
 ghost use Rattle.prem_analysis.specs.Ranging.Plain.{plain, plain_list};
 ghost use Rattle.prem_analysis.specs.Seen.{seen_of, behind};
 
+use crate::entering::{Counting, enter_other};
 use crate::known::{at_either, at_input, put_back};
-use crate::loops::{Counting, enter_counting, enter_if, enter_other, enter_while};
+use crate::loops::{enter_counting, enter_if, enter_while};
 use crate::ranging::{Known, Site};
 use crate::seen::Seen;
 use crate::simple::{call, output, set_element, set_local, set_scalar};

@@ -6,9 +6,10 @@ ghost use Rattle.prem_analysis.specs.Ranging.Plain.{plain, plain_list};
 ghost use Rattle.prem_annotate.specs.Seeing.Sight.{sight_of};
 ghost use Rattle.prem_annotate.specs.Seeing.Walk.{behind};
 
-use crate::seeing::entering::{Counting, enter_counting, enter_if, enter_other, enter_while};
+use crate::seeing::entering::{enter_counting, enter_if, enter_while};
 use crate::seeing::sight::Sight;
 use crate::seeing::simple::{call, output, set_element, set_local, set_scalar};
+use prem_analysis::entering::{Counting, enter_other};
 use prem_analysis::known::{at_either, at_input, put_back};
 use prem_analysis::ranging::Known;
 use prem_tree::resolve::Step;
@@ -63,15 +64,16 @@ pub fn walk(
             Ok(())
         }
         Step::For {
+            at,
             number,
             low,
             closed,
             high,
             step,
             body,
-            ..
         } => {
             let counting = Counting {
+                at: *at,
                 number: *number,
                 low,
                 closed: *closed,

@@ -1,6 +1,7 @@
 use Rattle.std.proofs.Common.{◌≡◌, ap, ◌∙◌, arith, to_z, of_z}
-use Rattle.prem_annotate.proofs.Prelude.{set_again, span_of, env_of, body_range, at_local, with_range, Span, ints, w64}
-use Rattle.prem_annotate.proofs.seeing.entering.enter_body.Goals as goal
+use Rattle.prem_analysis.proofs.Prelude.{span_of, env_of, body_range, at_local, with_range, Span, ints, w64}
+use Rattle.prem_analysis.proofs.InPlace.{set_again}
+use Rattle.prem_analysis.proofs.entering.enter_body.Goals as goal
 
 pub returns-clause-env : goal.returns-clause-env
 returns-clause-env c =
