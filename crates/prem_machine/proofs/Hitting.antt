@@ -57,7 +57,7 @@ put_one p memory a b h =
     omega (arith, same, put_more no_record hit.effect a.task)
 
 -- a cycle at least
-takes_some : (p : Plant) (memory : List ℕ) (a b : Spot) (h : IsNext p memory a b) → 1 ≤ h.cost
+pub takes_some : (p : Plant) (memory : List ℕ) (a b : Spot) (h : IsNext p memory a b) → 1 ≤ h.cost
 takes_some p memory a b h = let some = costs_some h.hit.instr in omega (arith, some, h.hit.costs)
 
 -- nothing is owed
@@ -92,7 +92,7 @@ counted_at p memory a b n h =
     ∙ (λ i. record n { hits = hits i; memory_stores = stores i })
 
 -- the turn of the core, of a task that stands there
-turn_at : (p : Setup) (k now : ℕ) (s : MachineState) (core : CoreState) (a b : Spot) (n : Counts) → k < length s.work.tasks → (h : IsNext p.plant s.work.memory a b) →
+pub turn_at : (p : Setup) (k now : ℕ) (s : MachineState) (core : CoreState) (a b : Spot) (n : Counts) → k < length s.work.tasks → (h : IsNext p.plant s.work.memory a b) →
     core_turn (rule_in p) p now (Issues k core.interval) (work_at k s.work a) core (counts_at n a)
     ≡ record { work = work_at k s.work b; core = core_issued now k core.interval Stay h.cost [] core; counts = counts_at n b; trapped = None }
 turn_at p k now s core a b n lt next =
@@ -140,16 +140,16 @@ pub put_there : (tasks : List Task) (k : ℕ) (t d : Task) (n : ℕ) → k < len
 put_there tasks k t d n lt le = omega (arith, le, sum_by-set (λ (x : Task). length x.outputs) tasks k t d lt)
 
 -- the state in which a task stands there
-abbrev lone_at : ℕ → MachineState → Spot → MachineState
+abbrev pub lone_at : ℕ → MachineState → Spot → MachineState
 lone_at k s b = lone_state k s (work_at k s.work b) (counts_at s.log.counts b) (s.now + b.time) 0
 
-room_at : (p : Setup) (k n : ℕ) (s : MachineState) (b : Spot) → k < length s.work.tasks → Leads p.plant s.work.memory (spot_in k s) n b →
+pub room_at : (p : Setup) (k n : ℕ) (s : MachineState) (b : Spot) → k < length s.work.tasks → Leads p.plant s.work.memory (spot_in k s) n b →
     output_count s.work.tasks + n < log_size → length s.log.intervals < log_size → is_full (lone_at k s b) ≡ false
 room_at p k n s b lt f room less =
     let put = put_there s.work.tasks k b.task (first_task no_record []) n lt ((leads_far p.plant s.work.memory (spot_in k s) b n f).1) in
     not_full (output_count (slice_set s.work.tasks k b.task)) (length s.log.intervals) (omega (arith, put, room)) less
 
-lone_there : (requests : List Request) (task until : ℕ) (s : MachineState) (b : Spot) → IsLone task until requests s → IsLone task until requests (lone_at task s b)
+pub lone_there : (requests : List Request) (task until : ℕ) (s : MachineState) (b : Spot) → IsLone task until requests s → IsLone task until requests (lone_at task s b)
 lone_there requests task until s b h =
     record {
       mode = refl;
@@ -159,7 +159,7 @@ lone_there requests task until s b h =
       idle = λ t from lt memory. h.idle t (omega (arith, from)) lt memory;
     }
 
-leads_lone : (p : Setup) (requests : List Request) (task until n : ℕ) (s : MachineState) (b : Spot) → IsLone task until requests s → s.trapped ≡ None → task < length s.work.tasks →
+pub leads_lone : (p : Setup) (requests : List Request) (task until n : ℕ) (s : MachineState) (b : Spot) → IsLone task until requests s → s.trapped ≡ None → task < length s.work.tasks →
     Leads p.plant s.work.memory (spot_in task s) n b → s.now + b.time ≤ until → output_count s.work.tasks + n < log_size → length s.log.intervals < log_size →
     cycles_of (rule_in p) p requests b.time s ≡ lone_at task s b
 unfolding cycles_of

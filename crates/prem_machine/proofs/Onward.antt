@@ -6,7 +6,11 @@ use Rattle.prem_machine.proofs.Prelude.{sum_by-cons}
 use Rattle.prem_machine.proofs.Advancing.{rooms_kept, same_state}
 use Rattle.prem_machine.proofs.Arriving.{all_unmap}
 use Rattle.prem_machine.proofs.Hitting.{hits_are_cycles, leads_far, leads_silent, put_there}
+use Rattle.prem_machine.proofs.OneByOne.{hits_take, leads_told}
 use Rattle.prem_machine.proofs.Resting.{arrived_after, mode_after}
+use Rattle.prem_machine.specs.Hits.{spot_in}
+use Rattle.prem_machine.specs.Execution.{LeadsToTold, Tells, hits_on}
+use Rattle.prem_machine.specs.declared.execution.Execution.{Execution}
 use Rattle.prem_machine.proofs.Telling.{cores_told, outputs_told}
 
 -- the parts with another work, at a later time, with other facts of the tasks and more hits and stores counted
@@ -88,6 +92,25 @@ onward_silent p requests task until x w ts time hits stores h s none lt l le roo
     let here = put_as p requests x s in
     let few = steps_few p task x w ts time hits stores l in
     leads_silent (setup_in p) requests task until l.leads.reaches.steps (state_of x) b h none (omega (arith, at, lt)) l.leads.reaches.leads le (omega (arith, here, few.0, room)) less
+
+pub onward_told : {P : Type 0} (p : Setting) (requests : List Request) (task until : ℕ) (x : Parts P) (w : Works P) (ts : Sequence TaskFacts) (time hits stores : ℕ) (before told : List Execution) →
+    IsLone task until requests (state_of x) → Stands p requests x → x.trapped ≡ None → task < length x.work.cores.items → Leaves p task x w ts time hits stores →
+    LeadsToTold p.plant task (work_in x.work (items_of x.facts.tasks)) (work_in w (items_of ts)) time hits stores before told → x.now + time ≤ until →
+    put_out (items_of x.facts.tasks) + time < log_size → length (items_of x.facts.intervals) < log_size →
+    Tells (rule_in (setup_in p)) (setup_in p) requests time (state_of x) before told
+onward_told p requests task until x w ts time hits stores before told h s none lt l r le room less =
+    let b = spot_at r.leads.task w.cache time hits stores in
+    let count = cores_told p requests x s in
+    let at = tasks_count x.work.cores.items (items_of x.facts.tasks) count in
+    let here = put_as p requests x s in
+    let few = steps_few p task x w ts time hits stores (record l { leads = r.leads }) in
+    let take = hits_take p.plant x.work.memory (spot_in task (state_of x)) b r.leads.reaches.steps r.leads.reaches.leads in
+    record {
+      executions = hits_on r.leads.reaches.leads;
+      added = r.added;
+      take = omega (arith, take);
+      are = leads_told (setup_in p) requests task until r.leads.reaches.steps (state_of x) b h none (omega (arith, at, lt)) r.leads.reaches.leads le (omega (arith, here, few.0, room)) less;
+    }
 
 pub onward_stands : {P : Type 0} (p : Setting) (requests : List Request) (task : ℕ) (x : Parts P) (w : Works P) (ts : Sequence TaskFacts) (time hits stores : ℕ) → Stands p requests x →
     Leaves p task x w ts time hits stores → Stands p requests (onward x w ts time hits stores)

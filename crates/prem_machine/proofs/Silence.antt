@@ -165,13 +165,13 @@ owes_less rule p requests task until s w n t (m ∷ ns) begun cost h from lt ful
     want false = refl
 
 -- behind m of them
-record Owes (rule : ReplacementRule) (p : Setup) (requests : List Request) (task : ℕ) (s : MachineState) (w : Work) (n : Counts) (t m all : ℕ) (u : MachineState) : Type 0 where
-  debt : Debt
-  is : u ≡ owed_state task s w n (t + m) debt
-  left : cycles_owed debt + m ≡ all
-  none : debt.transactions ≡ [] → debt.begun ≡ false
+pub record Owes (rule : ReplacementRule) (p : Setup) (requests : List Request) (task : ℕ) (s : MachineState) (w : Work) (n : Counts) (t m all : ℕ) (u : MachineState) : Type 0 where
+  pub debt : Debt
+  pub is : u ≡ owed_state task s w n (t + m) debt
+  pub left : cycles_owed debt + m ≡ all
+  pub none : debt.transactions ≡ [] → debt.begun ≡ false
 
-owes : (rule : ReplacementRule) (p : Setup) (requests : List Request) (task until : ℕ) (s : MachineState) (w : Work) (n : Counts) (t : ℕ) (d : Debt) (m : ℕ) →
+pub owes : (rule : ReplacementRule) (p : Setup) (requests : List Request) (task until : ℕ) (s : MachineState) (w : Work) (n : Counts) (t : ℕ) (d : Debt) (m : ℕ) →
     IsLone task until requests s → s.now ≤ t → t + cycles_owed d ≤ until → is_full (lone_state task s w n 0 0) ≡ false → (d.transactions ≡ [] → d.begun ≡ false) → m ≤ cycles_owed d →
     Owes rule p requests task s w n t m (cycles_owed d) (cycles_of rule p requests m (owed_state task s w n t d))
 unfolding cycles_of

@@ -1,4 +1,5 @@
 // Instructions that follow each other while the bus has nothing to do.
+use crate::execution::{Execution, Seen, execution_since, has_room, tell};
 use crate::hits::follow_in;
 use crate::issue::Near;
 use crate::log::room_left;
@@ -20,12 +21,13 @@ pub(crate) struct Lone {
 }
 
 impl<P: Policy> Parts<P> {
-    ghost use Rattle.std.specs.Prelude.{◌≡◌, ◌+◌, ◌-◌, ◌*◌, ◌<◌, ◌≤◌, ◌^◌, IfSome, None, false, true, length};
+    ghost use Rattle.std.specs.Prelude.{◌≡◌, ◌+◌, ◌-◌, ◌*◌, ◌<◌, ◌≤◌, ◌^◌, ◌∷◌, ◌++◌, [], IfSome, None, false, true, length, vec_capacity, vec_len};
     ghost use Rattle.std.specs.List.Sorted.{IsNonDecreasingBy};
     ghost use Rattle.prem_list.specs.Sequence.{items_of};
     ghost use Rattle.prem_cycle.specs.State.{rule_in};
     ghost use Rattle.prem_cycle.specs.Cycle.{is_over, log_size};
     ghost use Rattle.prem_cycle.specs.Run.{cycles_of};
+    ghost use Rattle.prem_machine.specs.Execution.{IsOne, Tells, execution_since, seen_of};
     ghost use Rattle.prem_machine.specs.Issue.Near.{IsNear};
     ghost use Rattle.prem_machine.specs.Log.{put_out};
     ghost use Rattle.prem_machine.specs.Work.{setup_in};
@@ -62,7 +64,14 @@ impl<P: Policy> Parts<P> {
     /// Instructions that hit and go on in their interval, with all their cycles, of which there are fewer than these tasks may
     /// put out words. It answers how many words they may put out then.
     #[inline(always)]
-    fn follow(&mut self, setting: &Setting, requests: &[Request], lone: Lone, left: usize) -> usize
+    fn follow<const TOLD: bool>(
+        &mut self,
+        setting: &Setting,
+        requests: &[Request],
+        lone: Lone,
+        left: usize,
+        told: &mut Vec<Execution>,
+    ) -> usize
         requires setting { IsSetting setting.now requests.now }
         requires stands { Stands setting.now requests.now self.old }
         requires runs { Runs self.old.now (4 * self.old.now) requests.now self.old }
@@ -75,6 +84,8 @@ impl<P: Policy> Parts<P> {
         ensures state { state_of self.new ≡ cycles_of (rule_in (setup_in setting.now)) (setup_in setting.now) requests.now
             (self.new.now - self.old.now) (state_of self.old) }
         ensures silent { AreSilent (rule_in (setup_in setting.now)) (setup_in setting.now) requests.now (self.new.now - self.old.now) (state_of self.old) }
+        ensures told { TOLD ≡ true → Tells (rule_in (setup_in setting.now)) (setup_in setting.now) requests.now (self.new.now - self.old.now) (state_of self.old)
+            told.old.items told.new.items }
         ensures stands { Stands setting.now requests.now self.new }
         ensures runs { Runs self.new.now (4 * self.new.now) requests.now self.new }
         ensures from { self.old.now ≤ self.new.now }
@@ -90,12 +101,13 @@ impl<P: Policy> Parts<P> {
             return left;
         }
         let k = usize::from(lone.task);
-        let followed = follow_in(
+        let followed = follow_in::<P, TOLD>(
             k,
             room - 21,
             setting,
             &mut self.work,
             self.facts.tasks.items_mut(),
+            told,
         );
         self.now += followed.time;
         self.facts.hits += followed.hits as u64;
@@ -105,7 +117,7 @@ impl<P: Policy> Parts<P> {
 
     /// The same where it is to, and nothing where not.
     #[inline(always)]
-    fn follow_where(
+    fn follow_where<const TOLD: bool>(
         &mut self,
         follows: bool,
         setting: &Setting,
@@ -113,6 +125,7 @@ impl<P: Policy> Parts<P> {
         lone: Lone,
         left: usize,
         near: &mut Near,
+        told: &mut Vec<Execution>,
     ) -> usize
         requires setting { IsSetting setting.now requests.now }
         requires stands { Stands setting.now requests.now self.old }
@@ -127,6 +140,8 @@ impl<P: Policy> Parts<P> {
         ensures state { state_of self.new ≡ cycles_of (rule_in (setup_in setting.now)) (setup_in setting.now) requests.now
             (self.new.now - self.old.now) (state_of self.old) }
         ensures silent { AreSilent (rule_in (setup_in setting.now)) (setup_in setting.now) requests.now (self.new.now - self.old.now) (state_of self.old) }
+        ensures told { TOLD ≡ true → Tells (rule_in (setup_in setting.now)) (setup_in setting.now) requests.now (self.new.now - self.old.now) (state_of self.old)
+            told.old.items told.new.items }
         ensures stands { Stands setting.now requests.now self.new }
         ensures runs { Runs self.new.now (4 * self.new.now) requests.now self.new }
         ensures from { self.old.now ≤ self.new.now }
@@ -141,7 +156,7 @@ impl<P: Policy> Parts<P> {
         if !follows {
             return left;
         }
-        let rest = self.follow(setting, requests, lone, left);
+        let rest = self.follow::<TOLD>(setting, requests, lone, left, told);
         *near = Near::none();
         rest
     }
@@ -163,6 +178,8 @@ impl<P: Policy> Parts<P> {
         ensures state { state_of self.new ≡ cycles_of (rule_in (setup_in setting.now)) (setup_in setting.now) requests.now
             (self.new.now - self.old.now) (state_of self.old) }
         ensures silent { AreSilent (rule_in (setup_in setting.now)) (setup_in setting.now) requests.now (self.new.now - self.old.now) (state_of self.old) }
+        ensures one { self.old.now < self.new.now → IsOne (rule_in (setup_in setting.now)) (setup_in setting.now) requests.now lone.task
+            (self.new.now - self.old.now) (state_of self.old) }
         ensures stands { Stands setting.now requests.now self.new }
         ensures runs { Runs self.new.now (4 * self.new.now) requests.now self.new }
         ensures from { self.old.now ≤ self.new.now }
@@ -205,10 +222,45 @@ impl<P: Policy> Parts<P> {
         false
     }
 
+    /// What is seen before or behind an instruction of a task.
+    #[inline(always)]
+    fn see(&self, task: TaskId) -> Seen
+        requires { task < length self.now.work.cores.items }
+        ensures { result ≡ seen_of task self.entry.now }
+    {
+        Seen {
+            pc: self.work.cores[usize::from(task)].pc(),
+            now: self.now,
+            misses: self.facts.misses,
+            backs: self.facts.writebacks,
+        }
+    }
+
+    /// Tells of the instruction that was executed since, if one was, where they are told.
+    #[inline(always)]
+    fn tell<const TOLD: bool>(&self, before: Seen, task: TaskId, told: &mut Vec<Execution>)
+        requires task { task < length self.now.work.cores.items }
+        requires room { TOLD ≡ true → vec_len told.old < vec_capacity told.old }
+        requires misses { before.now < self.now.now → before.misses ≤ self.now.facts.misses }
+        requires backs { before.now < self.now.now → before.backs ≤ self.now.facts.writebacks }
+        ensures some { TOLD ≡ true → before.now < self.entry.now.now → told.new.items ≡ told.old.items ++ execution_since before (seen_of task self.entry.now) ∷ [] }
+        ensures none { self.entry.now.now ≤ before.now → told.new ≡ told.old }
+    {
+        if TOLD && before.now < self.now {
+            tell::<TOLD>(told, execution_since(before, self.see(task)));
+        }
+    }
+
     /// Instructions that follow each other while the bus has nothing to do, up to the limit; none where something else
-    /// comes first.
+    /// comes first. Where they are told, there are no more than there is room for.
     #[inline(never)]
-    pub fn stretch(&mut self, setting: &Setting, requests: &[Request], limit: u64)
+    pub fn stretch<const TOLD: bool>(
+        &mut self,
+        setting: &Setting,
+        requests: &[Request],
+        limit: u64,
+        told: &mut Vec<Execution>,
+    )
         requires setting { IsSetting setting.now requests.now }
         requires stands { Stands setting.now requests.now self.old }
         requires runs { Runs self.old.now (4 * self.old.now) requests.now self.old }
@@ -218,6 +270,8 @@ impl<P: Policy> Parts<P> {
         ensures state { state_of self.new ≡ cycles_of (rule_in (setup_in setting.now)) (setup_in setting.now) requests.now
             (self.new.now - self.old.now) (state_of self.old) }
         ensures silent { AreSilent (rule_in (setup_in setting.now)) (setup_in setting.now) requests.now (self.new.now - self.old.now) (state_of self.old) }
+        ensures told { TOLD ≡ true → Tells (rule_in (setup_in setting.now)) (setup_in setting.now) requests.now (self.new.now - self.old.now) (state_of self.old)
+            told.old.items told.new.items }
         ensures stands { Stands setting.now requests.now self.new }
         ensures runs { Runs self.new.now (4 * self.new.now) requests.now self.new }
         ensures from { self.old.now ≤ self.new.now }
@@ -231,16 +285,20 @@ impl<P: Policy> Parts<P> {
         let mut left = room_left(self.facts.tasks.items());
         let mut follows = true;
         'instructions: while left > 1 {
-            let rest = self.follow_where(follows, setting, requests, lone, left, &mut near);
-            if rest <= 1 {
+            let rest = self.follow_where::<TOLD>(
+                follows, setting, requests, lone, left, &mut near, told,
+            );
+            if rest <= 1 || !has_room::<TOLD>(told) {
                 return;
             }
-            let misses = self.facts.misses;
-            if !self.step(setting, requests, lone, &mut near) {
+            let before = self.see(lone.task);
+            let goes_on = self.step(setting, requests, lone, &mut near);
+            self.tell::<TOLD>(before, lone.task, told);
+            if !goes_on {
                 return;
             }
             // behind a miss the next instruction is issued alone
-            follows = self.facts.misses == misses;
+            follows = self.facts.misses == before.misses;
             left = rest - 1;
         }
     }

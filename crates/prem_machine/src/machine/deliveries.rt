@@ -101,6 +101,7 @@ impl<P: Policy> Machine<P> {
             self.pass_to(at);
             return true;
         }
-        self.stretch(limit)
+        let mut untold = Vec::new(*self.requests.allocator());
+        self.stretch::<false>(limit, &mut untold)
     }
 }

@@ -1,8 +1,10 @@
 use Rattle.std.proofs.Common.{◌≡◌, ◌+◌, ◌-◌, ◌<◌, ◌≤◌, ℕ, All, List, length, map, ap, sym, ◌∙◌, subst, arith}
 use Rattle.prem_machine.proofs.Prelude.{cycles_of, MachineState, rule_in, TaskFacts, Mode, items_of, room_of, Sequence, LeadsTo, ended_in, ModeReady, state_of, AreSilent, setup_in, work_in}
 use Rattle.prem_machine.proofs.Prelude.{with_items_is}
-use Rattle.prem_machine.proofs.Onward.{Leaves, onward_lone, onward_put, onward_runs, onward_silent, onward_stands, onward_state, room_for}
+use Rattle.prem_machine.proofs.Onward.{Leaves, onward_lone, onward_put, onward_runs, onward_silent, onward_stands, onward_state, onward_told, room_for}
+use Rattle.prem_machine.proofs.OneByOne.{tells_none}
 use Rattle.prem_machine.proofs.Stretching.{silent_stays, stays}
+use Rattle.prem_machine.specs.Execution.{LeadsToTold, Tells}
 use Rattle.std.specs.Vec.{with_items}
 use Rattle.prem_machine.proofs.parts.Parts.follow.Goals as goal
 
@@ -114,3 +116,30 @@ returns-clause-silent g c =
     subst S t (onward_silent p c.args.requests.now c.args.lone.task c.args.lone.until x c.follow_in-followed.new.work (tasks g c)
     done.time done.hits done.stores c.requires.lone c.requires.stands c.requires.trapped
     (here g c) (leaves g c) le.0 (omega (arith, le.1, c.requires.room)) c.requires.intervals)
+
+-- ---- what is told
+
+pub returns-then-room-le21-clause-told : goal.returns-then-room-le21-clause-told
+returns-then-room-le21-clause-told g c is_told =
+    let x = c.args.self.now in
+    tells_none (rule_in (setup_in c.args.setting.now)) (setup_in c.args.setting.now) c.args.requests.now (state_of x) x.now c.args.told.now.items
+
+pub returns-clause-told : goal.returns-clause-told
+returns-clause-told g c is_told =
+    let x = c.args.self.now in
+    let p = c.args.setting.now in
+    let done = c.follow_in-followed in
+    let time = done.result.time in
+    let le = within g c in
+    let before = c.args.told.now.items in
+    let told = done.new.told.items in
+    let W : List TaskFacts → List TaskFacts → ℕ → Type 0 = λ from to k.
+    LeadsToTold p.plant k (work_in x.work from) (work_in done.new.work to) time done.result.hits done.result.stores before told in
+    let r : W (items_of x.facts.tasks) (items_of (tasks g c)) c.args.lone.task =
+    subst (λ k. W (items_of x.facts.tasks) (items_of (tasks g c)) k) c.from-k.ensures
+    (subst (λ ts. W (items_of x.facts.tasks) ts c.from-k.result) (sym (there g c))
+    (subst (λ ts. W ts done.new.tasks c.from-k.result) c.items_mut.ensures.value (done.ensures.told is_told))) in
+    let T : ℕ → Type 0 = λ n. Tells (rule_in (setup_in p)) (setup_in p) c.args.requests.now n (state_of x) before told in
+    let t : time ≡ x.now + time - x.now = omega arith in
+    subst T t (onward_told p c.args.requests.now c.args.lone.task c.args.lone.until x done.new.work (tasks g c) time done.result.hits done.result.stores before told
+    c.requires.lone c.requires.stands c.requires.trapped (here g c) (leaves g c) r le.0 (omega (arith, le.1, c.requires.room)) c.requires.intervals)

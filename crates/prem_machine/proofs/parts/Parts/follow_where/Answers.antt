@@ -1,4 +1,5 @@
 use Rattle.prem_machine.proofs.Prelude.{rule_in, state_of, setup_in}
+use Rattle.prem_machine.proofs.OneByOne.{tells_none}
 use Rattle.prem_machine.proofs.Stretching.{silent_stays, stays}
 use Rattle.prem_machine.proofs.parts.Parts.follow_where.Goals as goal
 
@@ -11,3 +12,8 @@ pub returns-then-not-follows-clause-silent : goal.returns-then-not-follows-claus
 returns-then-not-follows-clause-silent g c =
     let x = c.args.self.now in
     silent_stays (rule_in (setup_in c.args.setting.now)) (setup_in c.args.setting.now) c.args.requests.now (state_of x) x.now
+
+pub returns-then-not-follows-clause-told : goal.returns-then-not-follows-clause-told
+returns-then-not-follows-clause-told g c is_told =
+    let x = c.args.self.now in
+    tells_none (rule_in (setup_in c.args.setting.now)) (setup_in c.args.setting.now) c.args.requests.now (state_of x) x.now c.args.told.now.items
