@@ -13,3 +13,4 @@ pub mod Lean
 pub mod Default
 pub mod Booked
 pub mod Told
+pub mod Slots

@@ -1,3 +1,4 @@
+pub mod Gathered
 pub mod Sums
 pub mod Charged
 pub mod Statements

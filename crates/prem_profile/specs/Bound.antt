@@ -11,3 +11,5 @@ pub mod Priced
 pub mod Memory
 pub mod Billed
 pub mod Small
+pub mod Slots
+pub mod Gathered

@@ -1,6 +1,7 @@
 //! What the bound of a job is made of: its bill, item by item, on the path that counts most.
 //!
 //! - `bill`: items, and bills of these.
+//! - `gathering`: bills with one item for each home.
 //! - `pieces`: the bill of pieces at a place.
 //! - `scope`: that of code as one scope.
 //! - `least`: those of statements without marked calls.
@@ -9,6 +10,7 @@
 //! - `set`: a compiled set with the bill of one job of each of its tasks.
 //! - `text`: the profile of a bill.
 mod bill;
+mod gathering;
 mod laws;
 mod least;
 mod parted;
@@ -18,4 +20,6 @@ pub mod set;
 mod task;
 pub mod text;
 
-pub use laws::{bill_rows_add_up, bills_add_up, bounds_add_up, set_bills_add_up};
+pub use laws::{
+    bill_rows_add_up, bills_add_up, bills_are_gathered, bounds_add_up, set_bills_add_up,
+};

@@ -20,6 +20,7 @@ use Rattle.prem_profile.specs.Bound.Scopes.{own_bill, own_jump_item}
 use Rattle.prem_profile.specs.Bound.Statements.{CallBill, choice_bill, head_end, inner_end, over_place, turns_bill}
 use Rattle.prem_profile.specs.Bound.Passages.{Stubs, closed_bill, cut_bill, first_passage, parted_bill, passage_bill}
 use Rattle.prem_profile.specs.Bound.Memory.{alone_bill, cut_part_bill}
+use Rattle.prem_profile.proofs.BillLemmas.Slots.{past}
 
 false_true : false ≡ true → ⊥
 false_true e = cc
@@ -74,12 +75,6 @@ pub record IsClosed (e : Scene) (stubs : Stubs) (known : List CallBill) (last : 
   pub count : PathCount
   pub counted : IsCounted e last ps start n place until edge count
   pub closed : bill ≡ closed_bill e stubs known last place (parts_of (drop n ps))
-
-past : {A : Type 0} (xs : List A) (n : ℕ) → length xs ≤ n → drop n xs ≡ []
-past [] zero le = refl
-past [] (suc n) le = refl
-past (x ∷ xs) zero le = absurd (omega (arith, le))
-past (x ∷ xs) (suc n) le = past xs n (omega (arith, le))
 
 module _ (e : Scene) (stubs : Stubs) (known : List CallBill) (last : Edge) (ps : List Part) (start : ℕ) where
   -- none of them

@@ -15,7 +15,7 @@ use Rattle.prem_wcet.specs.Outlines.{Outline, callees_of, code_of, names_of}
 use Rattle.prem_wcet.specs.PartsOf.{parts_of}
 use Rattle.prem_wcet.proofs.OutlineCode.{callees_are, code_is, names_are}
 use Rattle.prem_wcet.proofs.ScenesAlike.{StandsFor}
-use Rattle.prem_profile.specs.Bound.Bills.{cheaper}
+use Rattle.prem_profile.specs.Bound.Bills.{cheaper, gathered}
 use Rattle.prem_profile.specs.Bound.Scopes.{own_bill, scope_bill}
 use Rattle.prem_profile.specs.Bound.Statements.{CallBill, least_bill}
 use Rattle.prem_profile.specs.Bound.Passages.{Stubs, marked_bill, parted_bill}
@@ -37,18 +37,18 @@ module _ (v : Scene) (f : Routine) (at : ℕ) (ps : Pieces) (o : OutlineTree) (c
   size_is : size_of (code_of body) ≡ size_of (steps_code v.parts (locals_of f) f.body)
   size_is = ap (λ p. size_of (code_of p)) is.body ∙ ap size_of (code_is v (locals_of f) f.body)
 
-  least_is : function_least_bill v known at ps o ≡ (function_bill v (record { task = 0; places = λ k. 0 }) known f at).least
+  least_is : gathered (function_least_bill v known at ps o) ≡ (function_bill v (record { task = 0; places = λ k. 0 }) known f at).least
   least_is =
       λ i.
-      cheaper (scope_bill v at (span_is i))
+      gathered (cheaper (scope_bill v at (span_is i))
       (own_bill v at (is.entry i)
-      ++ (least_bill v known (at + size_of (is.entry i)) (is.body i) ++ own_bill v (at + size_of (is.entry i) + size_is i) (is.leaving i)))
+      ++ (least_bill v known (at + size_of (is.entry i)) (is.body i) ++ own_bill v (at + size_of (is.entry i) + size_is i) (is.leaving i))))
 
-  parted_is : (stubs : Stubs) → function_parted_bill v stubs known at o ≡ (function_bill v stubs known f at).parted
+  parted_is : (stubs : Stubs) → gathered (function_parted_bill v stubs known at o) ≡ (function_bill v stubs known f at).parted
   parted_is stubs =
       λ i.
-      parted_bill v stubs known at (record { pieces = is.entry i; globals = is.entry_names i; below = [] })
-      (record { pieces = is.leaving i; globals = is.leaving_names i; below = [] }) (is.body i)
+      gathered (parted_bill v stubs known at (record { pieces = is.entry i; globals = is.entry_names i; below = [] })
+      (record { pieces = is.leaving i; globals = is.leaving_names i; below = [] }) (is.body i))
 
   pub function_is : (stubs : Stubs) → function_calls v stubs known at ps o ≡ function_bill v stubs known f at
   function_is stubs = λ i. record { least = least_is i; parted = parted_is stubs i }
@@ -74,4 +74,4 @@ module _ (e v : Scene) (s : StandsFor e v) (a b : Stubs) (marks : (f : ℕ) → 
   pub function_stands : (known : List CallBill) (f : Routine) (at : ℕ) (ps : Pieces) (o : OutlineTree) → ps ≡ function_code v.parts f → IsFunction v f o →
       function_calls e a known at ps o ≡ function_bill v b known f at
   function_stands known f at ps o code is =
-      (λ i. record { least = least_stands known at ps o i; parted = parted_stands known at o i }) ∙ function_is v f at ps o code is known b
+      (λ i. record { least = gathered (least_stands known at ps o i); parted = gathered (parted_stands known at o i) }) ∙ function_is v f at ps o code is known b

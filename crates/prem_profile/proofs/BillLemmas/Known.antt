@@ -47,6 +47,7 @@ use Rattle.prem_profile.specs.Bound.Memory.{EndsAt, IsNextCall, call_of, calls_o
 use Rattle.prem_profile.proofs.BillLemmas.Ends.{function_ends}
 use Rattle.prem_profile.proofs.BillLemmas.Functions.{function_stands}
 use Rattle.prem_profile.proofs.BillLemmas.Marked.{faces_before, stated_told}
+use Rattle.prem_profile.proofs.BillLemmas.Slots.{past}
 
 -- ---- lists
 
@@ -63,12 +64,6 @@ there_item (y ∷ ys) (suc n) x is = there_item ys n x is
 
 drop_there : (fs : List Routine) (n : ℕ) (f : Routine) → n < length fs → slice_get fs n ≡ Some f → drop n fs ≡ f ∷ drop (n + 1) fs
 drop_there fs n f lt is = drop_more fs n f lt ∙ ap (λ h. h ∷ drop (n + 1) fs) (sym (there_item fs n f is))
-
-past : {A : Type 0} (xs : List A) (n : ℕ) → length xs ≤ n → drop n xs ≡ []
-past [] zero le = refl
-past [] (suc n) le = refl
-past (x ∷ xs) zero le = absurd (omega (arith, le))
-past (x ∷ xs) (suc n) le = past xs n (omega (arith, le))
 
 pub more_calls : (calls : List CallItems) (call : CallItems) → calls_of (calls ++ call ∷ []) ≡ calls_of calls ++ call_of call ∷ []
 more_calls [] call = refl

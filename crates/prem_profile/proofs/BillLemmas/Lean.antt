@@ -28,12 +28,13 @@ use Rattle.prem_wcet.specs.Outlines.{Outline, ended, plain, calling, choice, tur
 use Rattle.prem_profile.specs.declared.cost.Cost.{Cost}
 use Rattle.prem_profile.specs.declared.home.Home.{Home}
 use Rattle.prem_profile.specs.declared.home.Home.TheVariants.{At, Switch}
-use Rattle.prem_profile.specs.Bound.Bills.{Bill, bill_times, cheaper, cycles_on, dearer, total}
+use Rattle.prem_profile.specs.declared.bound.bill.Item.{Item}
+use Rattle.prem_profile.specs.Bound.Bills.{Bill, bill_times, cheaper, cycles_on, dearer, gathered, is_one, spent_at, told_plus, total, with_bill, with_item}
 use Rattle.prem_profile.specs.Bound.Booked.{bills_from}
 use Rattle.prem_profile.specs.Bound.Passages.{Stubs, closed_bill, cut_bill, cycles_item, first_passage, marked_bill, parted_bill, passage_bill}
 use Rattle.prem_profile.specs.Bound.Pieces.{PlaceCost, bill_at, bill_from, instruction_cost, item, jump_item, part_bill, straight_bill}
 use Rattle.prem_profile.specs.Bound.Profile.{joined}
-use Rattle.prem_profile.specs.Bound.Scopes.{bills_behind, lines_item, own_bill, own_jump_item, own_test_item, rule_cost, rule_misses, scope_bill, scope_bill_with, scope_cost, scope_misses}
+use Rattle.prem_profile.specs.Bound.Scopes.{bills_behind, function_from, lines_item, own_bill, own_jump_item, own_test_item, rule_cost, rule_misses, scope_bill, scope_bill_with, scope_cost, scope_misses}
 use Rattle.prem_profile.specs.Bound.Small.{IsSmall}
 use Rattle.prem_profile.specs.Bound.Statements.{CallBill, apart_bill, call_at, called_bill, choice_bill, head_end, inner_end, least_bill, over_place, turns_bill}
 use Rattle.prem_profile.specs.Bound.Tasks.{bills_of, body_begin, body_end, function_bill, job_bill, start_bill, stubs_of, task_bill}
@@ -80,6 +81,32 @@ lean_dearer a b f g = one_of (nat_lt (clipped (cycles_on a)) (clipped (cycles_on
 
 pub lean_cheaper : (a b : Bill) → AreLean a → AreLean b → AreLean (cheaper a b)
 lean_cheaper a b f g = one_of (nat_le (clipped (cycles_on a)) (clipped (cycles_on b))) a b f g
+
+lean_told : (a b : Cost) → IsLean a → IsLean b → IsLean (told_plus a b)
+lean_told a b f g =
+    let i = f.instructions in
+    let i' = g.instructions in
+    let m = f.misses in
+    let m' = g.misses in
+    let k = f.backs in
+    let k' = g.backs in
+    record {
+      instructions = clipped_more (a.instructions + b.instructions) (a.cycles + b.cycles) (omega (arith, i, i'));
+      misses = clipped_more (a.misses + b.misses) (a.cycles + b.cycles) (omega (arith, m, m'));
+      backs = clipped_more (a.backs + b.backs) (a.cycles + b.cycles) (omega (arith, k, k'));
+    }
+
+lean_item : (a : Bill) (x : Item) → AreLean a → IsLean x.cost → AreLean (with_item a x)
+lean_item [] x f g = (g, tt)
+lean_item (y ∷ a) x f g =
+    one_of (is_one y.home x.home) (spent_at y.home (told_plus y.cost x.cost) ∷ a) (y ∷ with_item a x) (lean_told y.cost x.cost f.0 g, f.1) (f.0, lean_item a x f.1 g)
+
+lean_with : (a b : Bill) → AreLean a → AreLean b → AreLean (with_bill a b)
+lean_with a [] f g = f
+lean_with a (x ∷ b) f g = lean_with (with_item a x) b (lean_item a x f g.0) g.1
+
+lean_gathered : (a : Bill) → AreLean a → AreLean (gathered a)
+lean_gathered a f = lean_with [] a tt f
 
 -- ---- pieces
 
@@ -168,9 +195,10 @@ module _ (c : PlaceCost) (each : (at : ℕ) (i : Instr) → IsLean (c at i)) whe
   known_lean : (functions : ℕ) (places : ℕ → ℕ) (known : List Bill) (fs : List Fact) → AllLean known → AllLean (bills_behind c functions places known fs)
   known_lean functions places known [] h = h
   known_lean functions places known (f ∷ fs) h =
-      let next : Bill = bill_from c (part_bill functions known) (places (code_part (length known))) f.pieces in
+      let here : Bill = bill_from c (part_bill functions known) (places (code_part (length known))) f.pieces in
+      let next : Bill = function_from c functions known (places (code_part (length known))) f.pieces in
       known_lean functions places (known ++ next ∷ []) fs
-      (lean_more known next h (pieces_lean (part_bill functions known) (part_lean functions known h) (places (code_part (length known))) f.pieces))
+      (lean_more known next h (lean_gathered here (pieces_lean (part_bill functions known) (part_lean functions known h) (places (code_part (length known))) f.pieces)))
 
 -- ---- scopes
 
@@ -342,9 +370,10 @@ module _ (e : Scene) (some : 0 < line_cost e.plant) where
       function_least_lean f at =
           let o : Outline = outline_of e (locals_of f) f.body in
           let parts : Bill = own_bill e at (entry e f).pieces ++ (least_bill e known (body_begin e f at) o ++ own_bill e (body_end e f at) (leaving e f).pieces) in
-          lean_cheaper (scope_bill e at (function_span e f)) parts (scope_lean at (function_span e f))
+          lean_gathered (cheaper (scope_bill e at (function_span e f)) parts)
+          (lean_cheaper (scope_bill e at (function_span e f)) parts (scope_lean at (function_span e f))
           (lean_append (own_bill e at (entry e f).pieces) _ (own_lean at (entry e f).pieces)
-          (lean_append (least_bill e known (body_begin e f at) o) _ (least_lean (body_begin e f at) o) (own_lean (body_end e f at) (leaving e f).pieces)))
+          (lean_append (least_bill e known (body_begin e f at) o) _ (least_lean (body_begin e f at) o) (own_lean (body_end e f at) (leaving e f).pieces))))
 
 -- ---- functions and jobs
 
@@ -377,7 +406,8 @@ module _ (e : Scene) (some : 0 < line_cost e.plant) (stubs : Stubs) (stack : ℕ
       all_lean (facts ++ fact_at here f at ∷ []) (known ++ function_bill here stubs known f at ∷ []) fs
       (calls_more known (function_bill here stubs known f at) h (
         function_least_lean here some known (least_at known h) (parted_at known h) stubs f at,
-        parted_lean here some known (least_at known h) (parted_at known h) stubs at (entry here f) (leaving here f) (outline_of here (locals_of f) f.body),
+        lean_gathered (parted_bill here stubs known at (entry here f) (leaving here f) (outline_of here (locals_of f) f.body))
+            (parted_lean here some known (least_at known h) (parted_at known h) stubs at (entry here f) (leaving here f) (outline_of here (locals_of f) f.body)),
       ))
 
 job_lean : (e : Scene) → 0 < line_cost e.plant → (known : List CallBill) → AllCallsLean known → (program : Resolved) → AreLean (job_bill e known program)

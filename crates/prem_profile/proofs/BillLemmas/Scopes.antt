@@ -35,7 +35,7 @@ use Rattle.prem_wcet.proofs.Rooms.{room_is}
 use Rattle.prem_wcet.proofs.SameRanges.{same_append, same_lines}
 use Rattle.prem_profile.specs.Bound.Bills.{Bill}
 use Rattle.prem_profile.specs.Bound.Pieces.{PlaceCost, bill_from, instruction_cost, part_bill}
-use Rattle.prem_profile.specs.Bound.Scopes.{bills_behind, crowd_lines, lines_item, scope_bill, scope_bill_with, scope_cost, scope_misses}
+use Rattle.prem_profile.specs.Bound.Scopes.{bills_behind, crowd_lines, function_from, lines_item, scope_bill, scope_bill_with, scope_cost, scope_misses}
 use Rattle.prem_profile.specs.declared.bound.bill.Item.{Item}
 use Rattle.prem_profile.specs.Bound.Priced.{bills_in, crowd_bill, crowd_cost, crowd_misses}
 use Rattle.prem_profile.proofs.BillLemmas.Alike.{pieces_behind}
@@ -84,12 +84,6 @@ module _ (e : Scene) (lines held : List ℕ) (c : Crowd) (plant : IsPlant e.plan
 
 -- ---- the bills of functions
 
-pub past : {A : Type 0} (xs : List A) (n : ℕ) → length xs ≤ n → drop n xs ≡ []
-past [] zero le = refl
-past [] (suc n) le = refl
-past (x ∷ xs) zero le = absurd (omega (arith, le))
-past (x ∷ xs) (suc n) le = past xs n (omega (arith, le))
-
 pub pieces_few : (fs : List FactTree) (code : List (Sequence Piece)) → length (map (λ (f : Fact). f.pieces) (facts_in fs code)) ≤ length fs
 pieces_few [] code = omega arith
 pieces_few (f ∷ fs) [] = omega arith
@@ -121,14 +115,14 @@ one_more (x ∷ bills) b = ap (λ bs. x.items ∷ bs) (one_more bills b)
 -- one more function is known
 pub next_bill : (c : PlaceCost) (functions : ℕ) (places : ℕ → ℕ) (fs : List FactTree) (code : List (Sequence Piece)) (n : ℕ) (old new : List (Vec Item Global)) (b : Vec Item Global) (all : List Bill) →
     n < length fs → length fs ≤ length code → length (bills_in old) ≡ n → new ≡ old ++ b ∷ [] →
-    b.items ≡ bill_from c (part_bill functions (bills_in old)) (places (code_part n)) (get_or (listed code) n no_pieces) →
+    b.items ≡ function_from c functions (bills_in old) (places (code_part n)) (get_or (listed code) n no_pieces) →
     pieces_behind c functions places (bills_in old) (drop n (map (λ (f : Fact). f.pieces) (facts_in fs code))) ≡ all →
     pieces_behind c functions places (bills_in new) (drop (n + 1) (map (λ (f : Fact). f.pieces) (facts_in fs code))) ≡ all
 next_bill c functions places fs code n old new b all lt le long put is rest =
     let left : List Pieces = drop (n + 1) (map (λ (f : Fact). f.pieces) (facts_in fs code)) in
     ap (λ bs. pieces_behind c functions places (bills_in bs) left) put
     ∙ ap (λ bs. pieces_behind c functions places bs left)
-    (one_more old b ∙ ap (λ x. bills_in old ++ x ∷ []) (is ∙ ap (λ k. bill_from c (part_bill functions (bills_in old)) (places (code_part k)) (get_or (listed code) n no_pieces)) (sym long)))
+    (one_more old b ∙ ap (λ x. bills_in old ++ x ∷ []) (is ∙ ap (λ k. function_from c functions (bills_in old) (places (code_part k)) (get_or (listed code) n no_pieces)) (sym long)))
     ∙ ap (pieces_behind c functions places (bills_in old)) (sym (pieces_drop fs code n lt le)) ∙ rest
 
 pub next_long : (old new : List (Vec Item Global)) (b : Vec Item Global) (n : ℕ) → length (bills_in old) ≡ n → new ≡ old ++ b ∷ [] → length (bills_in new) ≡ n + 1

@@ -16,7 +16,7 @@ use Rattle.prem_profile.specs.Bound.Profile.{AreShort, BoundsAddUp, joined, set_
 use Rattle.prem_profile.proofs.Reading.{profiles_are_read}
 use Rattle.prem_profile.proofs.Adding.{lines_add_up}
 use Rattle.prem_profile.proofs.RowsAdd.{rows_long}
-use Rattle.prem_profile.proofs.BoundLemmas.Sums.{on_append}
+use Rattle.prem_profile.proofs.BoundLemmas.Sums.{Comes, both, none, on_append}
 use Rattle.prem_profile.proofs.BoundLemmas.Tasks.{bills_add_up}
 use Rattle.prem_profile.proofs.BoundLemmas.Booked.{bill_rows_add_up}
 
@@ -32,8 +32,12 @@ all_come p k (t ∷ ts) short =
     exactly (cycles_on bill) (wcet_of p t.plans t.task.program t.at) (bills_add_up p t.plans k t.task.program t.at) short.0 in
     on_append bill (joined (bills_from p (k + 1) ts)) ∙ (λ i. here i + all_come p (k + 1) ts short.1 i)
 
+all_told : (p : Plant) (k : ℕ) (tasks : List Placed) → Comes (joined (bills_from p k tasks)) (wcets p tasks)
+all_told p k [] = none
+all_told p k (t ∷ ts) = both (record { is = bills_add_up p t.plans k t.task.program t.at }) (all_told p (k + 1) ts)
+
 pub bounds_add_up : BoundsAddUp
-bounds_add_up sources strips size p tasks short =
+bounds_add_up sources strips size p tasks =
     let bill : Bill = set_bill p tasks in
     let tasks_told : ℕ = length sources in
     let rows : ℕ = first_row tasks_told + strip_words strips in
@@ -43,5 +47,6 @@ bounds_add_up sources strips size p tasks short =
       sums = total bill;
       read = profiles_are_read sources strips (total bill) costs no_calls_at;
       lines = lines_add_up sources strips costs no_calls_at (rows_long (bill_row tasks_told (rows_of tasks_told size strips) bill) 0 rows) ∙ bill_rows_add_up tasks_told size strips bill;
-      cycles = all_come p 0 tasks short;
+      told = (all_told p 0 tasks).is;
+      exact = all_come p 0 tasks;
     }

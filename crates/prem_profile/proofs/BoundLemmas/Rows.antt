@@ -1,6 +1,6 @@
 -- Worked bills: what jobs are billed on the path that counts most, by the place of each word, counted from the machine's costs and the layout by hand.
-use Rattle.std.specs.Prelude.{codes}
-use Rattle.std.proofs.Common.{◌≡◌, refl, ℕ, ◌+◌, List, [], ◌∷◌, map, Option, Some, None, pos, true}
+use Rattle.std.specs.Prelude.{codes, ◌^◌}
+use Rattle.std.proofs.Common.{◌≡◌, refl, ℕ, ◌+◌, ◌∙◌, arith, List, [], ◌∷◌, map, Option, Some, None, pos, true}
 use Rattle.prem_word.specs.declared.kind.BinOp.TheVariants.{Add as AddOp}
 use Rattle.prem_plant.specs.Ranges.{default_plant as plant}
 use Rattle.prem_isa.specs.declared.instr.Instr.{Instr}
@@ -10,18 +10,19 @@ use Rattle.prem_syntax.specs.declared.tree.Ty.TheVariants.{Void}
 use Rattle.prem_syntax.specs.Syntax.{ProgramText, binary, output}
 use Rattle.prem_syntax.proofs.Samples.{at, int, statements, function}
 use Rattle.prem_asm.specs.Pieces.{Pieces, either, no_pieces, repeat, straight}
-use Rattle.prem_layout.specs.Placed.{Coded}
+use Rattle.prem_layout.specs.Placed.{Coded, Placed}
 use Rattle.prem_layout.specs.Template.Terms.{nonzero}
 use Rattle.prem_layout.proofs.Samples.{m_text, m_turns}
 use Rattle.prem_layout.proofs.Tasks.{coded, placed}
+use Rattle.prem_profile.specs.declared.cost.Cost.{Cost}
 use Rattle.prem_profile.specs.declared.home.Home.{Home}
 use Rattle.prem_profile.specs.declared.home.Home.TheVariants.{Rest, Switch, At}
 use Rattle.prem_profile.specs.declared.bound.bill.Item.{Item}
-use Rattle.prem_profile.specs.Bound.Bills.{Bill}
+use Rattle.prem_profile.specs.Bound.Bills.{Bill, gathered, spent_at}
 use Rattle.prem_profile.specs.Bound.Pieces.{bill_from}
 use Rattle.prem_profile.specs.Bound.Scopes.{rule_cost}
 use Rattle.prem_profile.specs.Bound.Booked.{bill_row, bills_from}
-use Rattle.prem_profile.specs.Bound.Profile.{set_bill}
+use Rattle.prem_profile.specs.Bound.Profile.{AreShort, set_bill, wcets}
 use Rattle.prem_profile.specs.declared.callgrind.Source.{Source}
 use Rattle.prem_profile.specs.Account.{each_row}
 use Rattle.prem_profile.specs.Strips.{Strip, first_row, rows_of, strip_words}
@@ -29,6 +30,7 @@ use Rattle.prem_profile.specs.Grammar.{Entry}
 use Rattle.prem_profile.specs.Callgrind.{no_calls_at}
 use Rattle.prem_profile.specs.Entries.{profile_entries}
 use Rattle.prem_profile.specs.Lines.Table.{at_line}
+use Rattle.prem_profile.proofs.BoundLemmas.Profile.{bounds_add_up}
 
 -- the address of an item's word, none of a switch; its cycles; and how many lines it may bring in
 abbrev place_of : Home → Option ℕ
@@ -57,13 +59,13 @@ sum_bill = refl
 -- PREDICTABLE(491) REGION(g, 0, 0) void set(int x RANGE(0, 9)) { g = x; }
 -- void job(void) { set(7); out(g); }
 -- The start by the rule. `job` from 44 on up to the argument, as one scope of four lines: two of code, the frame's and the argument's. The jump to the stub,
--- which begins at 92: `pm.mem`, a switch, the stated length, a switch, and the return. The rest of `job`, as one scope of four lines: two of code, that of `g`
--- and the frame's. In all 835 cycles.
+-- which begins at 92, where `pm.mem`, the stated length and the return are one item; two switches. The rest of `job`, as one scope of four lines: two of code,
+-- that of `g` and the frame's. In all 835 cycles, so the bound's lines come to these exactly.
 marked_bill : bills (coded (codes "m") 1000 1 m_text m_turns ∷ [])
     ≡ ((None, (20, 0)) ∷ (Some 0, (22, 1)) ∷ (Some 4, (21, 1))
-    ∷ (Some 44, (80, 4)) ∷ (Some 44, (1, 0)) ∷ (Some 48, (2, 0)) ∷ (Some 52, (1, 0)) ∷ (Some 56, (2, 0))
-    ∷ (Some 60, (22, 1)) ∷ (Some 92, (21, 1)) ∷ (None, (20, 0)) ∷ (Some 92, (491, 0)) ∷ (None, (20, 0)) ∷ (Some 92, (22, 1))
-    ∷ (Some 64, (80, 4)) ∷ (Some 64, (1, 0)) ∷ (Some 68, (1, 0)) ∷ (Some 72, (2, 0)) ∷ (Some 76, (1, 0)) ∷ (Some 80, (2, 0)) ∷ (Some 84, (1, 0)) ∷ (Some 88, (2, 0)) ∷ [])
+    ∷ (Some 44, (81, 4)) ∷ (Some 48, (2, 0)) ∷ (Some 52, (1, 0)) ∷ (Some 56, (2, 0)) ∷ (Some 60, (22, 1))
+    ∷ (Some 92, (534, 2)) ∷ (None, (40, 0))
+    ∷ (Some 64, (81, 4)) ∷ (Some 68, (1, 0)) ∷ (Some 72, (2, 0)) ∷ (Some 76, (1, 0)) ∷ (Some 80, (2, 0)) ∷ (Some 84, (1, 0)) ∷ (Some 88, (2, 0)) ∷ [])
     ∷ []
 marked_bill = refl
 
@@ -77,13 +79,26 @@ marked_strips = strip (codes "[start]") 0 2 3 ∷ strip (codes "set") 8 9 2 ∷ 
 abbrev marked_source : Source
 marked_source = record { name = codes "m"; file = codes "m.c" }
 
+abbrev marked_task : List Placed
+marked_task = placed plant (coded (codes "m") 1000 1 m_text m_turns ∷ [])
+
+marked_wcets : wcets plant marked_task ≡ 835
+marked_wcets = refl
+
+-- it is short, so it meets the premise of what is exact
+marked_short : AreShort plant marked_task
+marked_short = (let is = marked_wcets in omega (arith, is), tt)
+
+marked_exact : (bounds_add_up (marked_source ∷ []) marked_strips 68 plant marked_task).sums.cycles ≡ 835
+marked_exact = (bounds_add_up (marked_source ∷ []) marked_strips 68 plant marked_task).exact marked_short ∙ marked_wcets
+
 abbrev line_and_cycles : List Entry → List (ℕ × ℕ)
 line_and_cycles entries = map (λ (e : Entry). (e.line, e.cost.cycles)) entries
 
 abbrev bound_lines : Bill → List (ℕ × ℕ)
 bound_lines bill = line_and_cycles (profile_entries (marked_source ∷ []) marked_strips (each_row (bill_row 1 (rows_of 1 68 marked_strips) bill) 0 (first_row 1 + strip_words marked_strips)) no_calls_at)
 
-marked_lines : bound_lines (set_bill plant (placed plant (coded (codes "m") 1000 1 m_text m_turns ∷ [])))
+marked_lines : bound_lines (set_bill plant marked_task)
     ≡ (0, 60) ∷ (3, 22) ∷ (3, 21) ∷ (3, 81) ∷ (3, 2) ∷ (3, 1) ∷ (3, 2) ∷ (3, 22) ∷ (3, 81) ∷ (3, 1) ∷ (3, 2) ∷ (3, 1) ∷ (3, 2) ∷ (3, 1) ∷ (3, 2) ∷ (2, 534) ∷ []
 marked_lines = refl
 
@@ -109,3 +124,19 @@ second_side = refl
 three_turns : told_pieces (repeat 3 (straight (one ∷ []) no_pieces) (nonzero 10) (straight (one ∷ []) no_pieces) no_pieces)
     ≡ (Some 100, (63, 3)) ∷ (Some 104, (66, 3)) ∷ (Some 112, (63, 3)) ∷ (Some 116, (66, 3)) ∷ (Some 100, (21, 1)) ∷ (Some 104, (22, 1)) ∷ (Some 108, (22, 1)) ∷ []
 three_turns = refl
+
+-- ---- gathered bills
+
+abbrev cost : (cycles : ℕ) → Cost
+cost n = record { instructions = 1; cycles = n; misses = 1; backs = 0 }
+
+-- two words twice, of which the first one comes to more than is told, and the switches to two tasks
+abbrev twice : Bill
+twice =
+    spent_at (At 100) (cost (2 ^ 41)) ∷ spent_at (Switch 3) (cost 20) ∷ spent_at (At 104) (cost 2) ∷ spent_at (At 100) (cost 5)
+    ∷ spent_at (Switch 4) (cost 20) ∷ spent_at (Switch 3) (cost 20) ∷ spent_at (At 104) (cost 7) ∷ []
+
+gathered_once : gathered twice
+    ≡ spent_at (At 100) (record { instructions = 2; cycles = 2 ^ 41; misses = 2; backs = 0 }) ∷ spent_at (Switch 3) (record { instructions = 2; cycles = 40; misses = 2; backs = 0 })
+    ∷ spent_at (At 104) (record { instructions = 2; cycles = 9; misses = 2; backs = 0 }) ∷ spent_at (Switch 4) (cost 20) ∷ []
+gathered_once = refl

@@ -14,9 +14,10 @@ use Rattle.prem_wcet_laws.specs.Scopes.{Fact, places_behind}
 use Rattle.prem_wcet_laws.specs.Weights.{PlaceWeight, weight_from, jump_from, weighted_from}
 use Rattle.prem_wcet.proofs.AlikeScopes.{alike_max, alike_min, alike_product, alike_sum}
 use Rattle.prem_profile.specs.declared.bound.bill.Item.{Item}
-use Rattle.prem_profile.specs.Bound.Bills.{Bill, bill_times, cheaper, cycles_on, dearer}
+use Rattle.prem_profile.specs.Bound.Bills.{Bill, bill_times, cheaper, cycles_on, dearer, gathered}
 use Rattle.prem_profile.specs.Bound.Pieces.{PlaceCost, bill_at, bill_from, item, jump_item, part_bill, straight_bill}
-use Rattle.prem_profile.specs.Bound.Scopes.{bills_behind}
+use Rattle.prem_profile.specs.Bound.Scopes.{bills_behind, function_from}
+use Rattle.prem_profile.proofs.BoundLemmas.Gathered.{totals_kept}
 
 -- ---- numbers
 
@@ -100,6 +101,10 @@ on_cheaper a b = by (nat_le (clipped (cycles_on a)) (clipped (cycles_on b))) ref
 
 pub less : {a b : Bill} {m n : ℕ} → Comes a m → Comes b n → Comes (cheaper a b) (min m n)
 less {a} {b} {m} {n} c d = record { is = on_cheaper a b ∙ alike_min (cycles_on a) m (cycles_on b) n c.is d.is }
+
+-- of a bill with one item for each home
+pub gather : {a : Bill} {m : ℕ} → Comes a m → Comes (gathered a) m
+gather {a} {m} c = record { is = (let kept = totals_kept a in kept.cycles) ∙ c.is }
 
 -- bills that come to these numbers, in the same order
 abbrev pub AreComing : List Bill → List ℕ → Type 0
@@ -201,11 +206,11 @@ module _ (w : PlaceWeight) (c : PlaceCost) (same : (at : ℕ) (i : Instr) → (c
   known_come functions places bills known (f ∷ fs) h =
       let calls : ℕ → ℕ = part_weight functions (weight_at known) (λ k. 0) in
       let at : ℕ = places (code_part (length bills)) in
-      let next : Bill = bill_from c (part_bill functions bills) at f.pieces in
+      let next : Bill = function_from c functions bills at f.pieces in
       let n : ℕ = weighted_from w calls (places (code_part (length known))) f.pieces in
       known_come functions places (bills ++ next ∷ []) (known ++ n ∷ []) fs
       (coming_more bills known next n h
-      (recount n (pieces_come (part_bill functions bills) calls (part_comes functions bills known h) at f.pieces)
+      (recount n (gather (pieces_come (part_bill functions bills) calls (part_comes functions bills known h) at f.pieces))
       (ap (λ k. weighted_from w calls (places (code_part k)) f.pieces) (as_long bills known h))))
 
 -- no function is called

@@ -24,7 +24,7 @@ use Rattle.prem_profile.specs.Bound.Statements.{CallBill, call_at}
 use Rattle.prem_profile.specs.Bound.Passages.{Stubs, switch_item}
 use Rattle.prem_profile.specs.Bound.Tasks.{bills_of, body_begin, body_end, function_bill, job_bill, start_bill, stubs_of}
 use Rattle.prem_profile.specs.Bound.Laws.{BillsAddUp}
-use Rattle.prem_profile.proofs.BoundLemmas.Sums.{Comes, both, led, less, none, recount, three}
+use Rattle.prem_profile.proofs.BoundLemmas.Sums.{Comes, both, gather, led, less, none, recount, three}
 use Rattle.prem_profile.proofs.BoundLemmas.Charged.{jump_first, own_comes, rule_same, scope_comes}
 use Rattle.prem_profile.proofs.BoundLemmas.Statements.{least_comes}
 use Rattle.prem_profile.proofs.BoundLemmas.Passages.{parted_comes}
@@ -77,14 +77,14 @@ module _ (e : Scene) (f : Routine) (at : ℕ) where
 
   billed_one : (stubs : Stubs) (known : List CallBill) → ((g : ℕ) → Billed (call_at known g) (fact_of e g)) → Billed (function_bill e stubs known f at) (fact_at e f at)
   billed_one stubs known h = record {
-    least = less (scope_comes e at (function_span e f))
+    least = gather (less (scope_comes e at (function_span e f))
         (recount (own_around e f + least e (locals_of f) (body_at e f at) f.body)
         (three (own_comes e at (entry e f).pieces)
         (recount (least e (locals_of f) (body_at e f at) f.body) (least_comes e known (λ g. (h g).least) (body_begin e f at) (outline_of e (locals_of f) f.body)) body_is)
-        (own_comes e (body_end e f at) (leaving e f).pieces)) around);
-    parted = recount (parted_function e f at).total
+        (own_comes e (body_end e f at) (leaving e f).pieces)) around));
+    parted = gather (recount (parted_function e f at).total
         (parted_comes e stubs known (λ g. (h g).least) (λ g. (h g).parted) at (entry e f) (leaving e f) (outline_of e (locals_of f) f.body))
-        (ap (λ c. c.total) (outlines_count.parted_is e (entry e f) (leaving e f) (locals_of f) at f.body));
+        (ap (λ c. c.total) (outlines_count.parted_is e (entry e f) (leaving e f) (locals_of f) at f.body)));
   }
 
 module _ (e : Scene) (stubs : Stubs) (stack : ℕ → List Extent) where

@@ -23,7 +23,7 @@ use Rattle.prem_wcet.specs.KnownOf.{memory_scene, stack_by}
 use Rattle.prem_wcet.specs.PartsOf.{IsOutline, parts_of}
 use Rattle.prem_wcet.specs.SceneOf.{face_at}
 use Rattle.prem_profile.specs.declared.bound.least.CallItems.{CallItems}
-use Rattle.prem_profile.specs.Bound.Bills.{Bill, cheaper}
+use Rattle.prem_profile.specs.Bound.Bills.{Bill, cheaper, gathered}
 use Rattle.prem_profile.specs.Bound.Scopes.{own_bill, own_jump_item, scope_bill}
 use Rattle.prem_profile.specs.Bound.Statements.{CallBill, call_at, called_bill, choice_bill, head_end, inner_end, least_bill, over_place, turns_bill}
 use Rattle.prem_profile.specs.Bound.Passages.{Stubs, closed_bill, cut_bill, first_passage, parted_bill}
@@ -111,7 +111,10 @@ abbrev pub function_parted_bill : Scene → Stubs → List CallBill → (at : �
 function_parted_bill e stubs known at o = parted_bill e stubs known at (entry_of o) (leaving_of o) (parts_of (items_of o.body))
 
 abbrev pub function_calls : Scene → Stubs → List CallBill → (at : ℕ) → Pieces → OutlineTree → CallBill
-function_calls e stubs known at code o = record { least = function_least_bill e known at code o; parted = function_parted_bill e stubs known at o }
+function_calls e stubs known at code o = record {
+  least = gathered (function_least_bill e known at code o);
+  parted = gathered (function_parted_bill e stubs known at o);
+}
 
 -- what a call of the function behind those that have these facts is billed, by the outline that is cut out of its code
 pub record IsNextCall (p : Plant) (t : PlacedTask) (task : ℕ) (faces : List Face) (facts : List FactTree) (known : List CallBill) (call : CallItems) : Type 0 where

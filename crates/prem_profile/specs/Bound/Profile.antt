@@ -2,6 +2,7 @@
 use Rattle.std.specs.Prelude.{◌≡◌, ◌≤◌, ◌^◌, ℕ, ◌+◌, List, [], ◌∷◌, ◌++◌, length}
 use Rattle.prem_plant.specs.declared.plant.Plant.{Plant}
 use Rattle.prem_layout.specs.Placed.{Placed}
+use Rattle.prem_bounds.specs.Scale.{clipped}
 use Rattle.prem_wcet_laws.specs.Wcet.{wcet_of}
 use Rattle.prem_profile.specs.declared.cost.Cost.{Cost}
 use Rattle.prem_profile.specs.declared.callgrind.Source.{Source}
@@ -31,18 +32,19 @@ abbrev pub wcets : Plant → List Placed → ℕ
 wcets p [] = 0
 wcets p (t ∷ ts) = wcet_of p t.plans t.task.program t.at + wcets p ts
 
--- a text is a profile by the grammar, whose lines add up to what jobs take at most
+-- each of which is at most 2 ^ 40, as the rules on bounds want it of each set
+abbrev pub AreShort : Plant → List Placed → Type 0
+AreShort p [] = Unit {0}
+AreShort p (t ∷ ts) = (wcet_of p t.plans t.task.program t.at ≤ 2 ^ 40) × AreShort p ts
+
+-- a text is a profile by the grammar, whose lines add up to what jobs take at most: as numbers are told, and exactly where each is short
 pub record IsBound (text : List ℕ) (p : Plant) (tasks : List Placed) : Type 0 where
   pub entries : List Entry
   pub sums : Cost
   pub read : IsProfile text entries sums
   pub lines : entries_sum entries ≡ sums
-  pub cycles : sums.cycles ≡ wcets p tasks
-
--- each of which is small enough to be told
-abbrev pub AreShort : Plant → List Placed → Type 0
-AreShort p [] = Unit {0}
-AreShort p (t ∷ ts) = (wcet_of p t.plans t.task.program t.at ≤ 2 ^ 40) × AreShort p ts
+  pub told : clipped sums.cycles ≡ clipped (wcets p tasks)
+  pub exact : AreShort p tasks → sums.cycles ≡ wcets p tasks
 
 abbrev pub BoundsAddUp : Type 0
-BoundsAddUp = (sources : List Source) (strips : List Strip) (size : ℕ) (p : Plant) (tasks : List Placed) → AreShort p tasks → IsBound (bound_profile sources strips size p tasks) p tasks
+BoundsAddUp = (sources : List Source) (strips : List Strip) (size : ℕ) (p : Plant) (tasks : List Placed) → IsBound (bound_profile sources strips size p tasks) p tasks

@@ -11,7 +11,7 @@ use Rattle.prem_layout.specs.Parts.{code_part}
 use Rattle.prem_wcet_laws.specs.Scopes.{Span, Fact, Scene, is_roomy, roomy_lines, lines_in, data_lines}
 use Rattle.prem_profile.specs.declared.home.Home.TheVariants.{At}
 use Rattle.prem_profile.specs.declared.bound.bill.Item.{Item}
-use Rattle.prem_profile.specs.Bound.Bills.{Bill}
+use Rattle.prem_profile.specs.Bound.Bills.{Bill, gathered}
 use Rattle.prem_profile.specs.Bound.Pieces.{PlaceCost, instruction_cost, item, jump_item, bill_from, part_bill}
 
 -- ---- as one scope
@@ -29,11 +29,15 @@ scope_misses p lines data_roomy at i = crowd_lines (is_roomy p lines (at / p.lin
 abbrev pub scope_cost : Plant → (lines : List ℕ) → (data_roomy : Bool) → PlaceCost
 scope_cost p lines data_roomy at i = instruction_cost (line_cost p) (scope_misses p lines data_roomy at i) i
 
+-- of a function whose code is at a place, which has one item for each home, where those before it are known
+abbrev pub function_from : PlaceCost → (functions : ℕ) → List Bill → (at : ℕ) → Pieces → Bill
+function_from c functions known at ps = gathered (bill_from c (part_bill functions known) at ps)
+
 -- the bills of functions in the order of the text, behind those that are known
 abbrev pub bills_behind : PlaceCost → (functions : ℕ) → (places : ℕ → ℕ) → List Bill → List Fact → List Bill
 bills_behind c functions places known [] = known
 bills_behind c functions places known (f ∷ fs) =
-    bills_behind c functions places (known ++ bill_from c (part_bill functions known) (places (code_part (length known))) f.pieces ∷ []) fs
+    bills_behind c functions places (known ++ function_from c functions known (places (code_part (length known))) f.pieces ∷ []) fs
 
 -- the dearest path
 abbrev pub path_bill : Scene → PlaceCost → (at : ℕ) → Span → Bill

@@ -14,7 +14,7 @@ use Rattle.prem_wcet_laws.specs.Scopes.{Fact, Scene, fact_of, function_span}
 use Rattle.prem_wcet_laws.specs.Parted.{entry, leaving}
 use Rattle.prem_wcet_laws.specs.Wcet.{at_function, fact_at, known_scene, scene_of, stack_of, start_span}
 use Rattle.prem_wcet.specs.Outlined.{outline_of}
-use Rattle.prem_profile.specs.Bound.Bills.{Bill, cheaper}
+use Rattle.prem_profile.specs.Bound.Bills.{Bill, cheaper, gathered}
 use Rattle.prem_profile.specs.Bound.Pieces.{item}
 use Rattle.prem_profile.specs.Bound.Scopes.{own_bill, own_jump_item, rule_cost, scope_bill}
 use Rattle.prem_profile.specs.Bound.Statements.{CallBill, call_at, least_bill}
@@ -29,13 +29,13 @@ body_begin e f at = at + size_of (entry e f).pieces
 abbrev pub body_end : Scene → Routine → (at : ℕ) → ℕ
 body_end e f at = body_begin e f at + size_of (steps_code e.parts (locals_of f) f.body)
 
--- a call of a function whose code is at a place, behind its jump
+-- a call of a function whose code is at a place, behind its jump, which has one item for each home
 abbrev pub function_bill : Scene → Stubs → List CallBill → Routine → (at : ℕ) → CallBill
 function_bill e stubs known f at = record {
-  least = cheaper (scope_bill e at (function_span e f))
+  least = gathered (cheaper (scope_bill e at (function_span e f))
       (own_bill e at (entry e f).pieces
-      ++ (least_bill e known (body_begin e f at) (outline_of e (locals_of f) f.body) ++ own_bill e (body_end e f at) (leaving e f).pieces));
-  parted = parted_bill e stubs known at (entry e f) (leaving e f) (outline_of e (locals_of f) f.body);
+      ++ (least_bill e known (body_begin e f at) (outline_of e (locals_of f) f.body) ++ own_bill e (body_end e f at) (leaving e f).pieces)));
+  parted = gathered (parted_bill e stubs known at (entry e f) (leaving e f) (outline_of e (locals_of f) f.body));
 }
 
 -- in the order of the text, behind those that are known with these facts

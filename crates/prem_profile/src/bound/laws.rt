@@ -1,5 +1,6 @@
 // What holds of all bills.
 ghost use Rattle.prem_profile.specs.Bound.Booked.{BillRowsAddUp, SetBillsAddUp};
+ghost use Rattle.prem_profile.specs.Bound.Gathered.{BillsAreGathered};
 ghost use Rattle.prem_profile.specs.Bound.Laws.{BillsAddUp};
 ghost use Rattle.prem_profile.specs.Bound.Profile.{BoundsAddUp};
 
@@ -7,6 +8,12 @@ ghost use Rattle.prem_profile.specs.Bound.Profile.{BoundsAddUp};
 #[tactic(auto, using(crate::proofs::BoundLemmas::Tasks::bills_add_up))]
 pub fn bills_add_up()
     ensures { BillsAddUp }
+{}
+
+/// A gathered bill has one item for each home, and comes to what the bill comes to, told up to 2^41: in all, and in each row of a profile.
+#[tactic(auto, using(crate::proofs::BoundLemmas::Gathered::bills_are_gathered))]
+pub fn bills_are_gathered()
+    ensures { BillsAreGathered }
 {}
 
 /// What all rows of a profile have of a bill comes to the bill: the instructions, the cycles, the misses, and the lines that are written back.
@@ -21,8 +28,8 @@ pub fn set_bills_add_up()
     ensures { SetBillsAddUp }
 {}
 
-/// The profile of a set's bound keeps to the grammar of callgrind's format, and its lines add up to what one job of each task takes at most, where
-/// each is at most 2^40.
+/// The profile of a set's bound keeps to the grammar of callgrind's format, and its lines add up to what one job of each task takes at most: told up
+/// to 2^41, and exactly where each is at most 2^40.
 #[tactic(auto, using(crate::proofs::BoundLemmas::Profile::bounds_add_up))]
 pub fn bounds_add_up()
     ensures { BoundsAddUp }

@@ -13,11 +13,12 @@ ghost use Rattle.prem_wcet.specs.Outlines.{code_of};
 ghost use Rattle.prem_wcet.specs.PartsOf.{parts_of};
 ghost use Rattle.prem_wcet.specs.SceneOf.{IsScene, facts_in, scene_in};
 ghost use Rattle.prem_profile.specs.Bound.Bills.{cheaper, cycles_on};
-ghost use Rattle.prem_profile.specs.Bound.Pieces.{bill_from, part_bill};
-ghost use Rattle.prem_profile.specs.Bound.Scopes.{bills_behind, lines_item, scope_bill_with};
+ghost use Rattle.prem_profile.specs.Bound.Pieces.{bill_from};
+ghost use Rattle.prem_profile.specs.Bound.Scopes.{bills_behind, function_from, lines_item, scope_bill_with};
 ghost use Rattle.prem_profile.specs.Bound.Priced.{IsPriced, bills_in, calls_by, costs_by, crowd_bill, crowd_cost};
 
 use crate::bound::bill::{Item, cycles_on, push_item};
+use crate::bound::gathering::gather;
 use crate::bound::pieces::{Costing, Prices, push_pieces};
 use crate::cost::Cost;
 use crate::home::Home;
@@ -30,7 +31,7 @@ use prem_wcet::scene::{Ranges, Scene};
 use prem_wcet::scope::charge_with;
 use std::alloc::{AllocError, Global};
 
-/// The bill of the function of a number, where those before it are known.
+/// The bill of the function of a number, where those before it are known, which has one item for each home.
 fn function_at(
     scene: &Scene,
     crowd: &Crowd,
@@ -40,7 +41,7 @@ fn function_at(
     requires scene { IsScene scene.now }
     requires cache { IsCache crowd.now }
     requires there { n < length scene.now.code.now }
-    ensures { IfOk result (λ bill. bill.items ≡ bill_from (crowd_cost crowd.now) (part_bill (length scene.now.code.now) (bills_in functions.now))
+    ensures { IfOk result (λ bill. bill.items ≡ function_from (crowd_cost crowd.now) (length scene.now.code.now) (bills_in functions.now)
         (place_at scene.now.places.now (code_part n)).0 (get_or (listed scene.now.code.now) n no_pieces)) }
 {
     let prices = Prices {
@@ -57,7 +58,8 @@ fn function_at(
         scene.places.place(1 + n).0,
         &prices,
     )?;
-    Ok(bill)
+    let all = gather(scene.alloc, &bill)?;
+    Ok(all)
 }
 
 /// The bills of the functions that are known, each at its place.

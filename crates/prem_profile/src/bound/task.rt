@@ -25,6 +25,7 @@ ghost use Rattle.prem_profile.specs.Bound.Passages.{switch_item};
 ghost use Rattle.prem_profile.specs.Bound.Memory.{EndsAt, IsNextCall, call_of, calls_of, function_calls, job_items, known_items, stubs_in};
 
 use crate::bound::bill::{Item, append};
+use crate::bound::gathering::gather;
 use crate::bound::least::{CallItems, least_function, push_own_jump, rule_of as rule_prices};
 use crate::bound::parted::{parted_function, push_switch};
 use crate::bound::pieces::push_instr;
@@ -51,7 +52,7 @@ struct BilledFunctions {
 
 // ---- functions
 
-/// What a call of a function is billed whose code is at a place.
+/// What a call of a function is billed whose code is at a place, with one item for each home.
 fn function_calls(
     scene: &Scene,
     known: &[CallItems],
@@ -68,8 +69,10 @@ fn function_calls(
     requires below { BelowFits (scene_in scene.now) (parts_of (items_of outline.now.body)) }
     ensures { IfOk result (λ call. call_of call ≡ function_calls (scene_in scene.now) (stubs_in scene.now task) (calls_of known.now) at (pieces_of code.now) outline.now) }
 {
-    let least = least_function(scene, known, at, code, outline)?;
-    let parted = parted_function(scene, known, task, at, outline)?;
+    let whole = least_function(scene, known, at, code, outline)?;
+    let least = gather(scene.alloc, &whole)?;
+    let cut = parted_function(scene, known, task, at, outline)?;
+    let parted = gather(scene.alloc, &cut)?;
     Ok(CallItems { least, parted })
 }
 

@@ -5,10 +5,11 @@ use Rattle.prem_layout.specs.Parts.{code_part}
 use Rattle.prem_bounds.specs.TableOf.{listed}
 use Rattle.prem_wcet_laws.specs.Scopes.{Fact}
 use Rattle.prem_wcet.specs.SceneOf.{facts_in}
-use Rattle.prem_profile.specs.Bound.Pieces.{bill_from, part_bill}
+use Rattle.prem_profile.specs.Bound.Scopes.{function_from}
 use Rattle.prem_profile.specs.Bound.Priced.{bills_in, crowd_cost}
 use Rattle.prem_profile.proofs.BillLemmas.Alike.{by_pieces, pieces_behind}
-use Rattle.prem_profile.proofs.BillLemmas.Scopes.{next_bill, next_long, past, pieces_few}
+use Rattle.prem_profile.proofs.BillLemmas.Scopes.{next_bill, next_long, pieces_few}
+use Rattle.prem_profile.proofs.BillLemmas.Slots.{past}
 use Rattle.prem_profile.proofs.bound.scope.functions_of.Goals as goal
 
 pub loop-n-init : goal.loop-n-init
@@ -30,7 +31,7 @@ loop-n-preserved c =
       long = next_long c.loop-n.all.items c.push.new.self.items c.in_ok-bill.bill n c.loop-n.invariant.long c.in_ok-push.ensures.items;
       rest = next_bill k (length s.code.now) (λ part. (place_at s.places.now part).0) s.facts.now s.code.now n c.loop-n.all.items c.push.new.self.items c.in_ok-bill.bill _
           (omega (arith, c.loop-n-test.true)) c.requires.scene.known c.loop-n.invariant.long c.in_ok-push.ensures.items
-          (c.in_ok-bill.ensures ∙ ap (λ bs. bill_from k (part_bill (length s.code.now) (bills_in bs)) (place_at s.places.now (code_part n)).0 (get_or (listed s.code.now) n no_pieces)) c.deref.ensures.value)
+          (c.in_ok-bill.ensures ∙ ap (λ bs. function_from k (length s.code.now) (bills_in bs) (place_at s.places.now (code_part n)).0 (get_or (listed s.code.now) n no_pieces)) c.deref.ensures.value)
           c.loop-n.invariant.rest;
     }
 

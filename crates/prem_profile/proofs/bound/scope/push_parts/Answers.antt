@@ -9,7 +9,7 @@ use Rattle.prem_wcet.proofs.PlaceWeights.{size_followed}
 use Rattle.prem_profile.specs.Bound.Pieces.{bill_from}
 use Rattle.prem_profile.specs.Bound.Priced.{calls_by, costs_by}
 use Rattle.prem_profile.proofs.BillLemmas.Pieces.{bill_followed, gone}
-use Rattle.prem_profile.proofs.BillLemmas.Scopes.{past}
+use Rattle.prem_profile.proofs.BillLemmas.Slots.{past}
 use Rattle.prem_profile.proofs.bound.scope.push_parts.Goals as goal
 
 pub push_pieces-requires-clause-place : goal.push_pieces-requires-clause-place

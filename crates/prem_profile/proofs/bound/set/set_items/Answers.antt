@@ -4,7 +4,7 @@ use Rattle.prem_place.specs.Placed.PlacedOf.{placed_of}
 use Rattle.prem_profile.specs.Bound.Booked.{bills_from}
 use Rattle.prem_profile.specs.Bound.Profile.{AreShort, joined}
 use Rattle.prem_profile.proofs.BillLemmas.Pieces.{gone}
-use Rattle.prem_profile.proofs.BillLemmas.Scopes.{past}
+use Rattle.prem_profile.proofs.BillLemmas.Slots.{past}
 use Rattle.prem_profile.proofs.bound.set.set_items.Goals as goal
 
 pub tasks-preserved : goal.tasks-preserved

@@ -1,0 +1,51 @@
+use Rattle.std.proofs.Common.{◌≡◌, ◌+◌, ◌<◌, [], ◌∷◌, refl, ap, sym, subst, ◌∙◌, arith, length, drop, replicate}
+use Rattle.std.proofs.lemmas.List.{drop_more, length-replicate}
+use Rattle.prem_profile.specs.Bound.Bills.{gathered, with_bill, with_item}
+use Rattle.prem_profile.specs.Bound.Slots.{lowest, slot_of, slots_for}
+use Rattle.prem_profile.proofs.BillLemmas.Slots.{AreFrom, AreSlots, AreWithin, all_from, all_within, from_put, items_put, past, slots_long, slots_none, slots_put}
+use Rattle.prem_profile.proofs.bound.gathering.gather.Goals as goal
+
+pub items-init : goal.items-init
+items-init c =
+    let bill = c.args.bill.now in
+    let low = c.lowest-low.result in
+    let many = slots_for low 0 bill in
+    let slots = c.in_ok-slots.slots.items in
+    let zeros = c.in_ok-slots.ensures ∙ ap (λ n. replicate n 0) c.slots_for.ensures in
+    record {
+      rest = ap (λ b. with_bill b bill) c.new-all.ensures.items;
+      slots = slots_none low many slots c.new-all.result.items zeros c.new-all.ensures.items;
+      long = ap length zeros ∙ length-replicate many 0;
+      from = subst (AreFrom low) (sym c.new-all.ensures.items) tt;
+      left = subst (λ k. AreFrom k bill) (sym c.lowest-low.ensures) (all_from 4294967295 bill);
+      within = all_within low 0 bill;
+    }
+
+pub items-preserved : goal.items-preserved
+items-preserved c =
+    let bill = c.args.bill.now in
+    let low = c.lowest-low.result in
+    let i = c.items.item-index in
+    let x = c.item-item.result in
+    let all = c.items.all.items in
+    let slots = c.items.slots.items in
+    let many = slots_for low 0 bill in
+    let left = drop_more bill i x c.items-test.true ∙ ap (λ y. y ∷ drop (i + 1) bill) (sym c.item-item.is) in
+    let from = subst (AreFrom low) left c.items.invariant.left in
+    let within = subst (AreWithin low many) left c.items.invariant.within in
+    let there : slot_of low x.home < length slots = omega (arith, within.0, c.items.invariant.long) in
+    let put = items_put low x from.0 slots all c.items.invariant.slots c.items.invariant.from there in
+    let put_is = c.in_ok-put.ensures.items ∙ put in
+    record {
+      rest = ap (λ b. with_bill b (drop (i + 1) bill)) put_is ∙ sym (ap (with_bill all) left) ∙ c.items.invariant.rest;
+      slots = subst (λ ss. AreSlots low ss c.put.new.items.items) (sym c.in_ok-put.ensures.slots) (subst (AreSlots low _) (sym put_is) (slots_put low x from.0 slots all c.items.invariant.slots c.items.invariant.from there));
+      long = ap length c.in_ok-put.ensures.slots ∙ slots_long low x from.0 slots (length all) ∙ c.items.invariant.long;
+      from = subst (AreFrom low) (sym put_is) (from_put low x from.0 all c.items.invariant.from);
+      left = from.1;
+      within = within.1;
+    }
+
+pub returns : goal.returns
+returns c =
+    let bill = c.args.bill.now in
+    sym (ap (with_bill c.items.all.items) (past bill c.items.item-index (omega (arith, c.items-test.false)))) ∙ c.items.invariant.rest
