@@ -258,11 +258,14 @@ all_within low n (x ∷ bill) =
 
 -- ---- none
 
-zero_at : (n slot : ℕ) → slice_index_or (replicate n 0) slot 0 ≡ 0
+abbrev pub zeros : ℕ → List ℕ
+zeros n = replicate n 0
+
+zero_at : (n slot : ℕ) → slice_index_or (zeros n) slot 0 ≡ 0
 zero_at zero zero = refl
 zero_at zero (suc slot) = refl
 zero_at (suc n) zero = refl
 zero_at (suc n) (suc slot) = zero_at n slot
 
-pub slots_none : (low n : ℕ) (slots : List ℕ) (bill : Bill) → slots ≡ replicate n 0 → bill ≡ [] → AreSlots low slots bill
+pub slots_none : (low n : ℕ) (slots : List ℕ) (bill : Bill) → slots ≡ zeros n → bill ≡ [] → AreSlots low slots bill
 slots_none low n slots bill is none slot lt = ap (λ ss. slice_index_or ss slot 0) is ∙ zero_at n slot ∙ sym (ap (place_of low slot) none)

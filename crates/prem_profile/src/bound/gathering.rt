@@ -1,5 +1,5 @@
 // Bills with one item for each home: so a bill is no longer than the code that it has been spent in, however often it is called.
-ghost use Rattle.std.specs.Prelude.{◌≡◌, slice_index_or, slice_set, length, IfOk, OnOk};
+ghost use Rattle.std.specs.Prelude.{◌≡◌, ◌<◌, ◌^◌, slice_index_or, slice_set, length, IfOk, OnOk};
 ghost use Rattle.prem_profile.specs.declared.bound.bill.Item.{Item};
 ghost use Rattle.prem_profile.specs.declared.home.Home.TheVariants.{Rest};
 ghost use Rattle.prem_profile.specs.Spent.{no_cost};
@@ -51,7 +51,8 @@ fn lowest(bill: &[Item]) -> u32
 
 /// The slot of a home, where no word is below the lowest one.
 fn slot_of(low: u32, home: Home) -> usize
-    ensures { result ≡ slot_of low home }
+    ensures slot { result ≡ slot_of low home }
+    ensures small { result < 2 ^ 32 }
 {
     match home {
         Home::Rest => 0,

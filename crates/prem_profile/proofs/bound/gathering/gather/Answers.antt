@@ -1,8 +1,8 @@
-use Rattle.std.proofs.Common.{◌≡◌, ◌+◌, ◌<◌, [], ◌∷◌, refl, ap, sym, subst, ◌∙◌, arith, length, drop, replicate}
+use Rattle.std.proofs.Common.{◌≡◌, ◌+◌, ◌<◌, [], ◌∷◌, refl, ap, sym, subst, ◌∙◌, arith, length, drop, get_or}
 use Rattle.std.proofs.lemmas.List.{drop_more, length-replicate}
 use Rattle.prem_profile.specs.Bound.Bills.{gathered, with_bill, with_item}
-use Rattle.prem_profile.specs.Bound.Slots.{lowest, slot_of, slots_for}
-use Rattle.prem_profile.proofs.BillLemmas.Slots.{AreFrom, AreSlots, AreWithin, all_from, all_within, from_put, items_put, past, slots_long, slots_none, slots_put}
+use Rattle.prem_profile.specs.Bound.Slots.{nothing_spent, slot_of, slots_for}
+use Rattle.prem_profile.proofs.BillLemmas.Slots.{AreFrom, AreSlots, AreWithin, all_from, all_within, from_put, items_put, past, slots_long, slots_none, slots_put, zeros}
 use Rattle.prem_profile.proofs.bound.gathering.gather.Goals as goal
 
 pub items-init : goal.items-init
@@ -11,7 +11,7 @@ items-init c =
     let low = c.lowest-low.result in
     let many = slots_for low 0 bill in
     let slots = c.in_ok-slots.slots.items in
-    let zeros = c.in_ok-slots.ensures ∙ ap (λ n. replicate n 0) c.slots_for.ensures in
+    let zeros = c.in_ok-slots.ensures ∙ ap zeros c.slots_for.ensures in
     record {
       rest = ap (λ b. with_bill b bill) c.new-all.ensures.items;
       slots = slots_none low many slots c.new-all.result.items zeros c.new-all.ensures.items;
@@ -26,11 +26,11 @@ items-preserved c =
     let bill = c.args.bill.now in
     let low = c.lowest-low.result in
     let i = c.items.item-index in
-    let x = c.item-item.result in
+    let x = get_or bill i nothing_spent in
     let all = c.items.all.items in
     let slots = c.items.slots.items in
     let many = slots_for low 0 bill in
-    let left = drop_more bill i x c.items-test.true ∙ ap (λ y. y ∷ drop (i + 1) bill) (sym c.item-item.is) in
+    let left = drop_more bill i nothing_spent c.items-test.true in
     let from = subst (AreFrom low) left c.items.invariant.left in
     let within = subst (AreWithin low many) left c.items.invariant.within in
     let there : slot_of low x.home < length slots = omega (arith, within.0, c.items.invariant.long) in
