@@ -11,7 +11,6 @@ pub fn bills_add_up()
 {}
 
 /// A gathered bill has one item for each home, and comes to what the bill comes to, told up to 2^41: in all, and in each row of a profile.
-#[tactic(auto, using(crate::proofs::BoundLemmas::Gathered::bills_are_gathered))]
 pub fn bills_are_gathered()
     ensures { BillsAreGathered }
 {}

@@ -1,7 +1,7 @@
 use Rattle.std.proofs.Common.{◌≡◌, ◌+◌, ◌<◌, [], ◌∷◌, refl, ap, sym, subst, ◌∙◌, arith, length, drop, get_or}
 use Rattle.std.proofs.lemmas.List.{drop_more, length-replicate}
 use Rattle.prem_profile.specs.Bound.Bills.{gathered, with_bill, with_item}
-use Rattle.prem_profile.specs.Bound.Slots.{nothing_spent, slot_of, slots_for}
+use Rattle.prem_profile.specs.Bound.Slots.{items_with, nothing_spent, slot_of, slots_for, slots_with}
 use Rattle.prem_profile.proofs.BillLemmas.Slots.{AreFrom, AreSlots, AreWithin, all_from, all_within, from_put, items_put, past, slots_long, slots_none, slots_put, zeros}
 use Rattle.prem_profile.proofs.bound.gathering.gather.Goals as goal
 
@@ -35,11 +35,13 @@ items-preserved c =
     let within = subst (AreWithin low many) left c.items.invariant.within in
     let there : slot_of low x.home < length slots = omega (arith, within.0, c.items.invariant.long) in
     let put = items_put low x from.0 slots all c.items.invariant.slots c.items.invariant.from there in
-    let put_is = c.in_ok-put.ensures.items ∙ put in
+    let slot_is = c.slot_of.ensures.slot in
+    let put_is = c.in_ok-put.ensures.items ∙ ap (λ s. items_with all (get_or slots s 0) x) slot_is ∙ put in
+    let kept_is = c.in_ok-put.ensures.slots ∙ ap (λ s. slots_with slots s (length all)) slot_is in
     record {
       rest = ap (λ b. with_bill b (drop (i + 1) bill)) put_is ∙ sym (ap (with_bill all) left) ∙ c.items.invariant.rest;
-      slots = subst (λ ss. AreSlots low ss c.put.new.items.items) (sym c.in_ok-put.ensures.slots) (subst (AreSlots low _) (sym put_is) (slots_put low x from.0 slots all c.items.invariant.slots c.items.invariant.from there));
-      long = ap length c.in_ok-put.ensures.slots ∙ slots_long low x from.0 slots (length all) ∙ c.items.invariant.long;
+      slots = subst (λ ss. AreSlots low ss c.put.new.items.items) (sym kept_is) (subst (AreSlots low _) (sym put_is) (slots_put low x from.0 slots all c.items.invariant.slots c.items.invariant.from there));
+      long = ap length kept_is ∙ slots_long low x from.0 slots (length all) ∙ c.items.invariant.long;
       from = subst (AreFrom low) (sym put_is) (from_put low x from.0 all c.items.invariant.from);
       left = from.1;
       within = within.1;
