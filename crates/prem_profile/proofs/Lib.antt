@@ -6,6 +6,7 @@ pub mod Called
 pub mod Rooms
 pub mod Callees
 pub mod Profiled
+pub mod ToldTurns
 pub mod CalledRuns
 pub mod Tasks
 pub mod Reading

@@ -181,7 +181,7 @@ unfolding home_after cycles_of
 first_home rule p requests s before home is zero lt = is
 first_home rule p requests s before home is (suc m) lt = absurd (omega (arith, lt))
 
-one_seen : (rule : ReplacementRule) (p : Setup) (requests : List Request) (s : MachineState) → AreSeen rule p requests 1 s
+pub one_seen : (rule : ReplacementRule) (p : Setup) (requests : List Request) (s : MachineState) → AreSeen rule p requests 1 s
 unfolding home_after spent cycles_of
 one_seen rule p requests s before =
     let h = seen_by (coming_step rule p requests s) before s (step_of rule p requests s) (step_told rule p requests s) in
@@ -267,7 +267,7 @@ step_stays rule p requests s false going d =
     let from : s.now ≤ (cycle_of rule p requests s).now = subst (λ (x : MachineState). s.now ≤ x.now) is (step_told rule p requests s).from in
     subst (Stays s) (sym is) (counts_stay s (cycle_of rule p requests s) from d)
 
-none_by : (issuer : Option ℕ) (w : Work) (o : Option CycleStep) → IsNextIf issuer w o → length (touches_of o) ≡ 0 → o ≡ None
+pub none_by : (issuer : Option ℕ) (w : Work) (o : Option CycleStep) → IsNextIf issuer w o → length (touches_of o) ≡ 0 → o ≡ None
 none_by issuer w None h e = refl
 none_by issuer w (Some st) h e = let some = h.touches in absurd (omega (arith, some, e))
 

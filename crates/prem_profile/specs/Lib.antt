@@ -4,6 +4,7 @@ pub mod Totals
 pub mod Issuer
 pub mod Turn
 pub mod Account
+pub mod Ahead
 pub mod Strips
 pub mod Calls
 pub mod Grammar

@@ -101,6 +101,7 @@ fn book_in(costs: &mut Vec<Cost>, row: usize, cost: Cost)
 }
 
 /// Books a cost at a home, in its row.
+#[inline(always)]
 pub fn book(account: &mut Account, home: Home, row: usize, cost: Cost)
     requires { HasRoom account.old.total account.old.costs.items cost }
     ensures home { account.new.home ≡ home }

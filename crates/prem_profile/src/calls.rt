@@ -227,6 +227,8 @@ fn note(calls: &mut Calls, functions: &[usize], function: usize, row: usize)
 }
 
 /// Goes on at a row of another function.
+#[cold]
+#[inline(never)]
 fn enter(calls: &mut Calls, table: &FunctionTable, function: usize, row: usize)
     requires function { function ≡ function_at table.now.functions.items row }
     requires room { HasWideRoom table.now.most (map narrow calls.old.costs.items) calls.old.recent }
@@ -242,6 +244,7 @@ fn enter(calls: &mut Calls, table: &FunctionTable, function: usize, row: usize)
 }
 
 /// Books a cost at a row, in all calls in which that stands.
+#[inline(always)]
 pub fn call(calls: &mut Calls, table: &FunctionTable, row: usize, cost: Cost)
     requires function { calls.old.function ≡ function_at table.now.functions.items calls.old.row }
     requires room { HasWideRoom table.now.most (map narrow calls.old.costs.items) calls.old.recent }

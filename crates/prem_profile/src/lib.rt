@@ -5,6 +5,7 @@
 #![tactic(auto)]
 
 mod account;
+mod ahead;
 mod answer;
 pub mod bound;
 mod callgrind;

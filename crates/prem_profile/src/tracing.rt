@@ -15,6 +15,7 @@ ghost use Rattle.prem_profile.specs.Account.{each_row, goes_on, row_cost};
 ghost use Rattle.prem_profile.specs.Calls.{AreOfCode, call_cost, narrow, run_calls};
 ghost use Rattle.prem_profile.specs.declared.home.Home.TheVariants.{Rest};
 
+use crate::ahead::{next_turn, none_ahead};
 use crate::account::{Account, RowTable, book, new_account, row_of};
 use crate::calls::{Calls, FunctionTable, call, new_calls, settle};
 use crate::cost::Cost;
@@ -176,7 +177,7 @@ pub struct SpentCycles {
 /// Goes on up to a cycle, behind one with this home.
 ///
 /// Condition: this cycle hasn't passed.
-fn go_on<P: Policy>(machine: &mut Machine<P>, before: Home, to: u64) -> SpentCycles
+pub fn go_on<P: Policy>(machine: &mut Machine<P>, before: Home, to: u64) -> SpentCycles
     requires now { (state_of machine.old).now ≤ to }
     requires limit { to ≤ 2 ^ 61 }
     ensures state { state_of machine.new ≡ cycles_of (rule_in (setup_in machine.old)) (setup_in machine.old) (requests_in machine.old)
@@ -226,7 +227,7 @@ fn may_pass<P: Policy>(machine: &Machine<P>) -> bool
 }
 
 /// The cycle up to which the machine goes in one turn: past one cycle, or past all that are dull.
-fn turn_end<P: Policy>(machine: &Machine<P>, at: u64, limit: u64) -> u64
+pub fn turn_end<P: Policy>(machine: &Machine<P>, at: u64, limit: u64) -> u64
     requires now { (state_of machine.now).now ≡ at }
     requires going { is_over (state_of machine.now) ≡ false }
     requires before { at < limit }
@@ -281,16 +282,16 @@ pub fn profile<P: Policy>(
     let first = row_of(table, Home::Rest);
     let mut calls = new_calls(alloc, functions, first, costs.len())?;
     let mut account = new_account(costs);
+    let mut ahead = none_ahead(alloc)?;
     let mut at = 0u64;
     let mut stop = machine.run_to(at);
     'turns: while has_turn(at, limit, stop) {
-        let end = turn_end(&machine, at, limit);
-        let turn = go_on(&mut machine, account.home, end);
+        let turn = next_turn(image, input, &mut machine, &mut ahead, account.home, at, limit);
         let row = row_of(table, turn.home);
         book(&mut account, turn.home, row, turn.cost);
         call(&mut calls, functions, row, turn.cost);
         stop = turn.stop;
-        at = end;
+        at = turn.end;
     }
     settle(&mut calls, functions);
     Ok(RunProfile { account, calls })
