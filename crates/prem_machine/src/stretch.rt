@@ -291,6 +291,7 @@ impl<P: Policy> Parts<P> {
             if rest <= 1 || !has_room::<TOLD>(told) {
                 return;
             }
+            let misses = self.facts.misses;
             let before = self.see(lone.task);
             let goes_on = self.step(setting, requests, lone, &mut near);
             self.tell::<TOLD>(before, lone.task, told);
@@ -298,7 +299,7 @@ impl<P: Policy> Parts<P> {
                 return;
             }
             // behind a miss the next instruction is issued alone
-            follows = self.facts.misses == before.misses;
+            follows = self.facts.misses == misses;
             left = rest - 1;
         }
     }

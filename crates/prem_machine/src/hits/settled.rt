@@ -147,7 +147,7 @@ fn store_on<P: Policy>(
 /// A word that stands at a task's place, on a line whose touch changes nothing, is executed, where its instruction hits and goes on and
 /// takes no input word. Where it doesn't, nothing changes. `plant` is a copy of the cache's, which needn't be read anew in each turn.
 #[inline(always)]
-fn hit_word<P: Policy>(
+fn hit_word<P: Policy, const TOLD: bool>(
     plant: &Plant,
     word: u32,
     task: &TaskRecord,
@@ -205,9 +205,10 @@ fn hit_word<P: Policy>(
 }
 
 /// The next instruction of a task is executed, where its line is settled and it hits, goes on in its interval and takes no input word.
-/// Where it doesn't, nothing changes. `near` is a slot to look for its line first.
+/// Where it doesn't, nothing changes. `near` is a slot to look for its line first. Each loop that calls it is to have a copy of its
+/// own: `TOLD` tells them apart, the one that tells of instructions and the other.
 #[inline(always)]
-pub(crate) fn hit_settled<P: Policy>(
+pub(crate) fn hit_settled<P: Policy, const TOLD: bool>(
     plant: &Plant,
     task: &TaskRecord,
     core: &mut TaskCore,
@@ -235,5 +236,5 @@ pub(crate) fn hit_settled<P: Policy>(
     let Some(word) = cache.word_settled(near, pc) else {
         return false;
     };
-    hit_word(plant, word, task, core, cache, mem, outputs, sum)
+    hit_word::<P, TOLD>(plant, word, task, core, cache, mem, outputs, sum)
 }
