@@ -10,7 +10,8 @@ use Rattle.prem_place.specs.Verdict.Told.{BoundsTold}
 use Rattle.prem_tasks.specs.Broken.{TaskText, TaskSet, text_rules, program_rules, programs_of, broken}
 use Rattle.prem_tasks.specs.Stops.{Stop, Stops}
 use Rattle.prem_stages.specs.Stages.{checked_text}
-use Rattle.prem_stages.specs.Coded.{AreFormed}
+use Rattle.prem_stages.specs.Coded.{AreFormed, unformed}
+use Rattle.prem_stages.proofs.Groups.{or_joins}
 use Rattle.prem_stages.proofs.Passing.{same_stop, first_stops, none_passes}
 use Rattle.prem_compile.specs.Bounding.{unbounded, bounds_told}
 use Rattle.prem_annotate.specs.Notes.{Notes, no_lengths, program_notes}
@@ -62,6 +63,11 @@ noted_last write set programs first notes more told formed are is bounds put =
     ∙ ap (λ (ts : List TaskText). with_tasks ts set) (noted_is write lengths 0 set.tasks ps (formed_read set programs formed))
 
 -- ---- refusals
+
+pub stops_at_programs : (write : Writer) (set : TaskSet) (stop : Stop) → Stops stop (unformed set) → Stops stop (unannotated write set)
+stops_at_programs write set stop s =
+    first_stops stop (unformed set) (unranged write set) (unannotated write set) s
+    (or_joins (over_tasks text_rules set.tasks) (over_tasks program_rules (programs_of set.tasks)) (unranged write set))
 
 behind_programs : (write : Writer) (set : TaskSet) (programs : List Checked) → AreFormed set programs → unannotated write set ≡ unranged write set
 behind_programs write set programs formed =

@@ -2,7 +2,6 @@
 #![tactic(auto)]
 
 mod answer;
-mod formed;
 mod laws;
 mod lengths;
 mod noted;

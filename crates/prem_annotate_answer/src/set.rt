@@ -12,13 +12,13 @@ ghost use Rattle.prem_annotate.specs.Writing.Text.{annotated_text};
 ghost use Rattle.prem_annotate_answer.specs.Written.{IsAnnotated, unannotated, unlengthened, written};
 ghost use Rattle.prem_annotate_answer.specs.Steps.{notes_in};
 
-use crate::formed::{all_notes, formed_programs};
 use crate::lengths::all_lengthened;
 use crate::noted::noted_set;
 use crate::others::other_rules;
-use prem_annotate::notes::FunctionNotes;
+use prem_annotate::notes::{FunctionNotes, notes_of};
 use prem_compile::{bounds_of_set, compile_stages};
 use prem_place::verdict::TaskBounds;
+use prem_stages::checked_programs;
 use prem_tasks::{Stop, TaskSet};
 use prem_tree::Checked;
 use std::alloc::{AllocError, Global};
@@ -32,6 +32,17 @@ fn judged(alloc: Global, set: TaskSet) -> Result<TaskSet, Stop>
         Ok(_) => Ok(set),
         Err(stop) => Err(stop),
     }
+}
+
+/// The annotations that each program needs, with the lengths that stand. It fails only for want of memory.
+fn all_notes(alloc: Global, programs: &[Checked]) -> Result<Vec<Vec<FunctionNotes>>, AllocError>
+    ensures { IfOk result (λ all. map notes_in all.items ≡ map (program_notes no_lengths) (map checked_text programs.now)) }
+{
+    let mut all = Vec::new(alloc);
+    for program in programs {
+        all.push(notes_of(alloc, program)?)?;
+    }
+    Ok(all)
 }
 
 /// The set with its annotations, with the lengths that stand.
@@ -89,10 +100,11 @@ fn annotate_formed(alloc: Global, set: &TaskSet, programs: &[Checked]) -> Result
 /// `Refused` comes for the first rule on the texts and programs that stand, then for the first one on ranges but for regions that a program
 /// with its new ranges breaks, then for one of the set with its annotations, told by the lines of its texts; and `OutOfMemory` only for
 /// want of memory.
+#[tactic(auto, using(crate::proofs::Stages::stops_at_programs))]
 pub fn annotate_set(alloc: Global, set: &TaskSet) -> Result<TaskSet, Stop>
     ensures { MatchResult result (λ new. IsAnnotated annotated_text (set_of set.now) (set_of new)) (λ stop. Stops stop (unannotated annotated_text (set_of set.now))) }
 {
-    let programs = formed_programs(alloc, set)?;
+    let programs = checked_programs(alloc, set)?;
     let new = annotate_formed(alloc, set, &programs)?;
     Ok(new)
 }

@@ -31,9 +31,10 @@ use Rattle.prem_tasks.specs.At.{broken_early, code_broken, placed_by}
 use Rattle.prem_tasks.specs.Told.{Told, of_text, of_program, of_ranges, of_code, refusal_of, told_of}
 use Rattle.prem_tasks.specs.Stops.{Stop, Stops}
 use Rattle.prem_tasks.specs.declared.rule.Refusal.{Refusal as BrokenRule}
+use Rattle.prem_stages.specs.Coded.{unformed}
 use Rattle.prem_compile.specs.Bounding.{broken_up_to_bounds, unbounded, unbounded_at}
 use Rattle.prem_lint.specs.Needs.{is_length}
-use Rattle.prem_lint.specs.Programs.{HasProgram, unformed}
+use Rattle.prem_lint.specs.Programs.{HasProgram}
 
 -- ---- what holds of all rules of a group
 

@@ -2,16 +2,10 @@
 use Rattle.std.specs.Prelude.{◌≡◌, ⊤, ℕ, List, [], map, slice_get, Bool, Option, None, Some, Ok}
 use Rattle.prem_syntax.specs.Syntax.{Text, ProgramText}
 use Rattle.prem_text.specs.Texts.{reads}
-use Rattle.prem_layout.specs.Rules.{Refusal, or_else, over_tasks}
-use Rattle.prem_tasks.specs.Broken.{TaskSet, text_rules, program_rules, programs_of}
 use Rattle.prem_tasks.specs.Told.{Told, of_text, of_program, of_ranges, of_code}
 use Rattle.prem_lint.specs.declared.spot.Spot.{Spot}
 use Rattle.prem_lint.specs.declared.spot.Spot.TheVariants.{Whole, Line}
 use Rattle.prem_lint.specs.Places.{beside, named_place, program_place, spot_at}
-
--- the rules on texts and programs
-abbrev pub unformed : TaskSet → Option (Refusal Told)
-unformed set = or_else (over_tasks text_rules set.tasks) (over_tasks program_rules (programs_of set.tasks))
 
 -- ---- the program of one task
 

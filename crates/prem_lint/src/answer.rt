@@ -17,7 +17,6 @@ ghost use Rattle.prem_lint.specs.Programs.{HasProgram, program_at};
 
 use crate::diagnostic::{Diagnostic, put_diagnostic};
 use crate::form::read_stated;
-use crate::formed::formed_programs;
 use crate::needs::{put_needs, source_name};
 use crate::places::spot_of;
 use prem_answer::{Answer, Halt, Status, Telling};
@@ -27,6 +26,7 @@ use prem_exec::sources::read_sources;
 use prem_io::Store;
 use prem_plant::{Label, TaskId};
 use prem_set::TaskEntry;
+use prem_stages::checked_programs;
 use prem_tasks::{Refusal, Stop, TaskSet, TaskText};
 use prem_tree::Checked;
 use std::alloc::{AllocError, Global};
@@ -197,7 +197,7 @@ fn judged(alloc: Global, name: &str, sources: &[Label], set: &TaskSet) -> Result
     ensures answer { Comes reply_of (λ given. given ≡ Ok (lint_reply name.now sources.now (set_of set.now))) result }
     ensures unread { IsErrOf result Halt.ReadFault → ⊥ }
 {
-    match formed_programs(alloc, set) {
+    match checked_programs(alloc, set) {
         Ok(programs) => judged_programs(alloc, name, sources, set, &programs),
         Err(Stop::Refused(refusal)) => {
             let refusal = Box::into_inner(refusal);

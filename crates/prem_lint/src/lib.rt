@@ -10,7 +10,6 @@ mod diagnostic;
 mod element;
 mod excerpt;
 mod form;
-mod formed;
 mod keys;
 mod message;
 mod needs;

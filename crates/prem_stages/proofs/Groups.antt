@@ -146,7 +146,7 @@ at_code set stop ps are well s =
 abbrev placed_in_set : TaskSet → Option (Refusal LateRule)
 placed_in_set set = broken_at_places set.plant (places_in set) (coded_in set)
 
-or_joins : {R : Type 0} (a b c : Option (Refusal R)) → or_else (or_else a b) c ≡ or_else a (or_else b c)
+pub or_joins : {R : Type 0} (a b c : Option (Refusal R)) → or_else (or_else a b) c ≡ or_else a (or_else b c)
 or_joins None b c = refl
 or_joins (Some r) b c = refl
 

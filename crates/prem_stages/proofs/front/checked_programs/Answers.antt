@@ -9,8 +9,8 @@ use Rattle.prem_stages.proofs.front.checked_programs.Goals as goal
 pub check_all-requires : goal.check_all-requires
 check_all-requires c = few_programs program_of c.in_ok-texts.texts.items c.tasks.result.now c.in_ok-texts.ensures.programs c.in_ok-texts.ensures.ends c.tasks.ensures.ranges.count.1
 
-pub returns : goal.returns
-returns c =
+pub returns-clause-formed : goal.returns-clause-formed
+returns-clause-formed c =
     let tasks = c.tasks.ensures.tasks in
     let listed = c.in_ok-texts.ensures.programs ∙ ap programs_of tasks in
     record {
