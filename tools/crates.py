@@ -131,8 +131,9 @@ def lacks(word, crate, answers, named):
         for path in (f"completions/{word}.bash", f"completions/_{word}", f"completions/{word}.fish", f"docs/{word}.1"):
             text = read(path)
             for command in usage.group(1).split(" | ") if text is not None else ():
-                if not re.search(rf"\b{command.split()[0]}\b", text):
-                    yield f"{command.split()[0]} in {path}"
+                first = next(it for it in command.split() if it != word)
+                if not first.isupper() and not re.search(rf"(?<!\w){first}\b", text):
+                    yield f"{first} in {path}"
             if text is None:
                 yield path
 
