@@ -16,8 +16,8 @@ use Rattle.prem_machine.proofs.Prelude.{settle, close_interval, at_point, next_c
 use Rattle.prem_machine.proofs.Prelude.{state_of, GoesOn, IsKept, core_in, setup_in, tasks_in, work_in, Moment, Parts, Setting, Works}
 use Rattle.prem_cycle.specs.declared.state.Mode.TheVariants.{Running}
 use Rattle.prem_machine.specs.declared.execution.Execution.{Execution}
-use Rattle.prem_machine.specs.declared.execution.Seen.{Seen}
-use Rattle.prem_machine.specs.Execution.{touched, SameTouches, IsOne, IsTold, AreTold, Tells, cycles_in, execution_since, hits_on, seen_of}
+use Rattle.prem_machine.specs.declared.execution.ExecutionView.{ExecutionView}
+use Rattle.prem_machine.specs.Execution.{touched, SameTouches, IsOneExecution, IsExecution, AreExecutions, ToldBehind, cycles_in, execution_since, hits_on, seen_of}
 
 -- ---- one that issues touches a line
 
@@ -93,7 +93,7 @@ none_is rule p requests s m lt = let z : m ≡ 0 = omega (arith, lt) in ap (λ k
 pub lone_one : (rule : ReplacementRule) (p : Setup) (requests : List Request) (task until : ℕ) (s : MachineState) (w : Work) (n : Counts) (cost : ℕ) (owed : List ℕ) (all : ℕ) →
     IsLone task until requests s → s.trapped ≡ None → 1 ≤ cost → all ≡ bus_cycles owed + cost → s.now + all ≤ until → is_over s ≡ false → is_full (lone_state task s w n 0 0) ≡ false →
     core_turn rule p s.now (Issues task s.core.interval) s.work s.core s.log.counts
-    ≡ record { work = w; core = core_issued s.now task s.core.interval Stay cost owed s.core; counts = n; trapped = None } → IsOne rule p requests task all s
+    ≡ record { work = w; core = core_issued s.now task s.core.interval Stay cost owed s.core; counts = n; trapped = None } → IsOneExecution rule p requests task all s
 lone_one rule p requests task until s w n cost owed all h none some is le over full turn =
     let more = turn_touches rule p s.now task s.core.interval s.work s.core s.log.counts
     (record { work = w; core = core_issued s.now task s.core.interval Stay cost owed s.core; counts = n; trapped = None }) turn refl in
@@ -128,7 +128,7 @@ pub first_one : (rule : ReplacementRule) (p : Setup) (requests : List Request) (
     IsLone task until requests s → t ≡ cycles_of rule p requests 1 s → t.now ≡ s.now + 1 →
     core_turn rule p s.now (Issues task s.core.interval) s.work s.core s.log.counts
     ≡ record { work = w; core = core_issued s.now task s.core.interval Stay cost owed s.core; counts = n; trapped = None } →
-    SameTouches (record t { log = record t.log { counts = n } }) t → IsOne rule p requests task 1 s
+    SameTouches (record t { log = record t.log { counts = n } }) t → IsOneExecution rule p requests task 1 s
 first_one rule p requests task until s t w n cost owed h is now turn same =
     let more = turn_touches rule p s.now task s.core.interval s.work s.core s.log.counts
     (record { work = w; core = core_issued s.now task s.core.interval Stay cost owed s.core; counts = n; trapped = None }) turn refl in
@@ -156,22 +156,22 @@ first_one rule p requests task until s t w n cost owed h is now turn same =
 
 -- ---- some behind others
 
-pub are_then : (rule : ReplacementRule) (p : Setup) (requests : List Request) (xs ys : List Execution) (s : MachineState) → AreTold rule p requests xs s →
-    AreTold rule p requests ys (cycles_of rule p requests (cycles_in xs) s) → AreTold rule p requests (xs ++ ys) s
-are_then rule p requests [] ys s first then_ = subst (AreTold rule p requests ys) (none_is rule p requests s 0 (omega arith)) then_
+pub are_then : (rule : ReplacementRule) (p : Setup) (requests : List Request) (xs ys : List Execution) (s : MachineState) → AreExecutions rule p requests xs s →
+    AreExecutions rule p requests ys (cycles_of rule p requests (cycles_in xs) s) → AreExecutions rule p requests (xs ++ ys) s
+are_then rule p requests [] ys s first then_ = subst (AreExecutions rule p requests ys) (none_is rule p requests s 0 (omega arith)) then_
 are_then rule p requests (x ∷ xs) ys s first then_ =
-    (first.0, are_then rule p requests xs ys (cycles_of rule p requests x.cycles s) first.1 (subst (AreTold rule p requests ys) (cycles_of-add rule p requests x.cycles (cycles_in xs) s) then_))
+    (first.0, are_then rule p requests xs ys (cycles_of rule p requests x.cycles s) first.1 (subst (AreExecutions rule p requests ys) (cycles_of-add rule p requests x.cycles (cycles_in xs) s) then_))
 
 pub cycles_then : (xs ys : List Execution) → cycles_in (xs ++ ys) ≡ cycles_in xs + cycles_in ys
 cycles_then [] ys = omega arith
 cycles_then (x ∷ xs) ys = omega (arith, cycles_then xs ys)
 
 -- none
-pub tells_none : (rule : ReplacementRule) (p : Setup) (requests : List Request) (s : MachineState) (n : ℕ) (told : List Execution) → Tells rule p requests (n - n) s told told
+pub tells_none : (rule : ReplacementRule) (p : Setup) (requests : List Request) (s : MachineState) (n : ℕ) (told : List Execution) → ToldBehind rule p requests (n - n) s told told
 tells_none rule p requests s n told = record { executions = []; added = sym (append-nil told); take = omega arith; are = tt }
 
-pub tells_then : (rule : ReplacementRule) (p : Setup) (requests : List Request) (n k : ℕ) (s : MachineState) (a b c : List Execution) → Tells rule p requests n s a b →
-    Tells rule p requests k (cycles_of rule p requests n s) b c → Tells rule p requests (n + k) s a c
+pub tells_then : (rule : ReplacementRule) (p : Setup) (requests : List Request) (n k : ℕ) (s : MachineState) (a b c : List Execution) → ToldBehind rule p requests n s a b →
+    ToldBehind rule p requests k (cycles_of rule p requests n s) b c → ToldBehind rule p requests (n + k) s a c
 tells_then rule p requests n k s a b c x y =
     let xs = x.executions in
     let ys = y.executions in
@@ -179,18 +179,18 @@ tells_then rule p requests n k s a b c x y =
       executions = xs ++ ys;
       added = y.added ∙ ap (λ z. z ++ ys) x.added ∙ append_assoc a xs ys;
       take = omega (arith, cycles_then xs ys, x.take, y.take);
-      are = are_then rule p requests xs ys s x.are (subst (λ m. AreTold rule p requests ys (cycles_of rule p requests m s)) (sym x.take) y.are);
+      are = are_then rule p requests xs ys s x.are (subst (λ m. AreExecutions rule p requests ys (cycles_of rule p requests m s)) (sym x.take) y.are);
     }
 
 pub tells_on : (rule : ReplacementRule) (p : Setup) (requests : List Request) (s t : MachineState) (i j k : ℕ) (a b c : List Execution) → i ≤ j → j ≤ k →
-    t ≡ cycles_of rule p requests (j - i) s → Tells rule p requests (j - i) s a b → Tells rule p requests (k - j) t b c → Tells rule p requests (k - i) s a c
+    t ≡ cycles_of rule p requests (j - i) s → ToldBehind rule p requests (j - i) s a b → ToldBehind rule p requests (k - j) t b c → ToldBehind rule p requests (k - i) s a c
 tells_on rule p requests s t i j k a b c le more is first then_ =
     let e : j - i + (k - j) ≡ k - i = omega (arith, le, more) in
-    subst (λ n. Tells rule p requests n s a c) e
-    (tells_then rule p requests (j - i) (k - j) s a b c first (subst (λ (u : MachineState). Tells rule p requests (k - j) u b c) is then_))
+    subst (λ n. ToldBehind rule p requests n s a c) e
+    (tells_then rule p requests (j - i) (k - j) s a b c first (subst (λ (u : MachineState). ToldBehind rule p requests (k - j) u b c) is then_))
 
-pub tells_one : (rule : ReplacementRule) (p : Setup) (requests : List Request) (x : Execution) (s : MachineState) (a b : List Execution) → b ≡ a ++ x ∷ [] → IsTold rule p requests x s →
-    Tells rule p requests x.cycles s a b
+pub tells_one : (rule : ReplacementRule) (p : Setup) (requests : List Request) (x : Execution) (s : MachineState) (a b : List Execution) → b ≡ a ++ x ∷ [] → IsExecution rule p requests x s →
+    ToldBehind rule p requests x.cycles s a b
 tells_one rule p requests x s a b added is = record { executions = x ∷ []; added = added; take = omega arith; are = (is, tt) }
 
 -- ---- those that hit
@@ -198,7 +198,7 @@ tells_one rule p requests x s a b added is = record { executions = x ∷ []; add
 hit_told : (p : Setup) (requests : List Request) (task until n : ℕ) (s : MachineState) (b c : Spot) → IsLone task until requests s → task < length s.work.tasks →
     (f : Leads p.plant s.work.memory (spot_in task s) n b) → (hit : IsNext p.plant s.work.memory b c) →
     s.now + c.time ≤ until → output_count s.work.tasks + suc n < log_size → length s.log.intervals < log_size →
-    IsTold (rule_in p) p requests (record { pc = b.task.pc; cycles = hit.cost; misses = 0; backs = 0 }) (lone_at task s b)
+    IsExecution (rule_in p) p requests (record { pc = b.task.pc; cycles = hit.cost; misses = 0; backs = 0 }) (lone_at task s b)
 hit_told p requests task until n s b c h lt f hit le room less =
     let rule = rule_in p in
     let t = lone_at task s b in
@@ -227,7 +227,7 @@ hits_take p memory a c (suc n) (then_hits b f h) =
 
 pub leads_told : (p : Setup) (requests : List Request) (task until n : ℕ) (s : MachineState) (b : Spot) → IsLone task until requests s → s.trapped ≡ None → task < length s.work.tasks →
     (f : Leads p.plant s.work.memory (spot_in task s) n b) → s.now + b.time ≤ until → output_count s.work.tasks + n < log_size → length s.log.intervals < log_size →
-    AreTold (rule_in p) p requests (hits_on f) s
+    AreExecutions (rule_in p) p requests (hits_on f) s
 leads_told p requests task until zero s b h none lt here le room less = tt
 leads_told p requests task until (suc n) s c h none lt (then_hits b f hit) le room less =
     let rule = rule_in p in
@@ -237,14 +237,14 @@ leads_told p requests task until (suc n) s c h none lt (then_hits b f hit) le ro
     let time : b.time ≡ cycles_in (hits_on f) = omega (arith, hits_take p.plant s.work.memory (spot_in task s) b n f) in
     let told = hit_told p requests task until n s b c h lt f hit le room less in
     are_then rule p requests (hits_on f) (x ∷ []) s before
-    (subst (λ m. IsTold rule p requests x (cycles_of rule p requests m s)) time (subst (λ (u : MachineState). IsTold rule p requests x u) (sym there) told), tt)
+    (subst (λ m. IsExecution rule p requests x (cycles_of rule p requests m s)) time (subst (λ (u : MachineState). IsExecution rule p requests x u) (sym there) told), tt)
 
 -- ---- one of the machine's parts
 
 pub went_one : {P : Type 0} (p : Setting) (requests : List Request) (x : Parts P) (w : Works P) (f : Facts) (task until cost all : ℕ) (touches : List LineTouch) (owed : List ℕ) →
     IsLone task until requests (state_of x) → Stands p requests x → x.trapped ≡ None → GoesOn p task x.work x.facts w f touches cost → owed_by p.plant touches ≡ owed → IsKept x.work x.facts w f →
     1 ≤ cost → all ≡ bus_cycles owed + cost → x.now + all ≤ until → put_out (items_of x.facts.tasks) + 2 ≤ log_size → length (items_of x.facts.intervals) < log_size →
-    IsOne (rule_in (setup_in p)) (setup_in p) requests task all (state_of x)
+    IsOneExecution (rule_in (setup_in p)) (setup_in p) requests task all (state_of x)
 went_one p requests x w f task until cost all touches owed h stands none goes owes k some is le room less =
     let s = state_of x in
     let y = behind x w f (x.now + all) x.moment x.core in
@@ -271,7 +271,7 @@ settled_touches mode s = same mode
 pub missed_one : {P : Type 0} (p : Setting) (requests : List Request) (x : Parts P) (w : Works P) (f : Facts) (m : Moment) (c : CoreParts) (t : MachineState) (task until cost : ℕ)
     (touches : List LineTouch) → IsLone task until requests (state_of x) → GoesOn p task x.work x.facts w f touches cost → IsKept x.work x.facts w f →
     t ≡ next_cycle (state_of (behind x w f x.now m c)) → t ≡ cycles_of (rule_in (setup_in p)) (setup_in p) requests 1 (state_of x) → t.now ≡ x.now + 1 →
-    IsOne (rule_in (setup_in p)) (setup_in p) requests task 1 (state_of x)
+    IsOneExecution (rule_in (setup_in p)) (setup_in p) requests task 1 (state_of x)
 missed_one p requests x w f m c t task until cost touches h goes k next is now =
     let s = state_of x in
     let q = setup_in p in
@@ -311,7 +311,7 @@ pub record Grows (a b : MachineState) : Type 0 where
   pub misses : a.log.counts.misses ≤ b.log.counts.misses
   pub backs : a.log.counts.writebacks ≤ b.log.counts.writebacks
 
-pub one_grows : (rule : ReplacementRule) (p : Setup) (requests : List Request) (task n : ℕ) (s t : MachineState) → IsOne rule p requests task n s → t ≡ cycles_of rule p requests n s → Grows s t
+pub one_grows : (rule : ReplacementRule) (p : Setup) (requests : List Request) (task n : ℕ) (s t : MachineState) → IsOneExecution rule p requests task n s → t ≡ cycles_of rule p requests n s → Grows s t
 one_grows rule p requests task n s t one is =
     let same = one.waits n one.some (omega arith) in
     record {
@@ -319,10 +319,10 @@ one_grows rule p requests task n s t one is =
       backs = omega (arith, one.backs, same.backs, ap (λ (u : MachineState). u.log.counts.writebacks) is);
     }
 
-pub tells_step : {P : Type 0} (p : Setting) (requests : List Request) (x y : Parts P) (task : ℕ) (before : Seen) (a b : List Execution) → Stands p requests x → task < length p.tasks.items →
+pub tells_step : {P : Type 0} (p : Setting) (requests : List Request) (x y : Parts P) (task : ℕ) (before : ExecutionView) (a b : List Execution) → Stands p requests x → task < length p.tasks.items →
     before ≡ seen_of task x → x.now < y.now → state_of y ≡ cycles_of (rule_in (setup_in p)) (setup_in p) requests (y.now - x.now) (state_of x) →
-    IsOne (rule_in (setup_in p)) (setup_in p) requests task (y.now - x.now) (state_of x) → b ≡ a ++ execution_since before (seen_of task y) ∷ [] →
-    Tells (rule_in (setup_in p)) (setup_in p) requests (y.now - x.now) (state_of x) a b
+    IsOneExecution (rule_in (setup_in p)) (setup_in p) requests task (y.now - x.now) (state_of x) → b ≡ a ++ execution_since before (seen_of task y) ∷ [] →
+    ToldBehind (rule_in (setup_in p)) (setup_in p) requests (y.now - x.now) (state_of x) a b
 tells_step p requests x y task before a b stands lt seen went state one added =
     let rule = rule_in (setup_in p) in
     let q = setup_in p in
@@ -338,14 +338,14 @@ tells_step p requests x y task before a b stands lt seen went state one added =
     })
 
 -- a turn of a stretch: instructions that hit, and then one more or none
-pub tells_turn : {P : Type 0} (p : Setting) (requests : List Request) (from x y z : Parts P) (task : ℕ) (before : Seen) (a b c d : List Execution) → from.now ≤ x.now → x.now ≤ y.now → y.now ≤ z.now →
+pub tells_turn : {P : Type 0} (p : Setting) (requests : List Request) (from x y z : Parts P) (task : ℕ) (before : ExecutionView) (a b c d : List Execution) → from.now ≤ x.now → x.now ≤ y.now → y.now ≤ z.now →
     state_of x ≡ cycles_of (rule_in (setup_in p)) (setup_in p) requests (x.now - from.now) (state_of from) →
     state_of y ≡ cycles_of (rule_in (setup_in p)) (setup_in p) requests (y.now - from.now) (state_of from) →
     state_of z ≡ cycles_of (rule_in (setup_in p)) (setup_in p) requests (z.now - y.now) (state_of y) →
-    Tells (rule_in (setup_in p)) (setup_in p) requests (x.now - from.now) (state_of from) a b → Tells (rule_in (setup_in p)) (setup_in p) requests (y.now - x.now) (state_of x) b c →
-    (y.now < z.now → IsOne (rule_in (setup_in p)) (setup_in p) requests task (z.now - y.now) (state_of y)) → Stands p requests y → task < length p.tasks.items → before ≡ seen_of task y →
+    ToldBehind (rule_in (setup_in p)) (setup_in p) requests (x.now - from.now) (state_of from) a b → ToldBehind (rule_in (setup_in p)) (setup_in p) requests (y.now - x.now) (state_of x) b c →
+    (y.now < z.now → IsOneExecution (rule_in (setup_in p)) (setup_in p) requests task (z.now - y.now) (state_of y)) → Stands p requests y → task < length p.tasks.items → before ≡ seen_of task y →
     (y.now < z.now → d ≡ c ++ execution_since before (seen_of task z) ∷ []) → (z.now ≤ y.now → d ≡ c) →
-    Tells (rule_in (setup_in p)) (setup_in p) requests (z.now - from.now) (state_of from) a d
+    ToldBehind (rule_in (setup_in p)) (setup_in p) requests (z.now - from.now) (state_of from) a d
 tells_turn p requests from x y z task before a b c d le more last first then_ end told hits one stands lt seen some none =
     let rule = rule_in (setup_in p) in
     let q = setup_in p in
@@ -355,4 +355,4 @@ tells_turn p requests from x y z task before a b c d le more last first then_ en
     (tells_step p requests y z task before c d stands lt seen went end (one went) (some went)))
     (λ (stays : z.now ≤ y.now).
     let same : y.now - from.now ≡ z.now - from.now = omega (arith, last, stays) in
-    subst (λ n. Tells rule q requests n (state_of from) a d) same (subst (Tells rule q requests (y.now - from.now) (state_of from) a) (sym (none stays)) so_far)) (cases_lt y.now z.now)
+    subst (λ n. ToldBehind rule q requests n (state_of from) a d) same (subst (ToldBehind rule q requests (y.now - from.now) (state_of from) a) (sym (none stays)) so_far)) (cases_lt y.now z.now)

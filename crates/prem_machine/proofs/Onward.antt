@@ -9,7 +9,7 @@ use Rattle.prem_machine.proofs.Hitting.{hits_are_cycles, leads_far, leads_silent
 use Rattle.prem_machine.proofs.OneByOne.{hits_take, leads_told}
 use Rattle.prem_machine.proofs.Resting.{arrived_after, mode_after}
 use Rattle.prem_machine.specs.Hits.{spot_in}
-use Rattle.prem_machine.specs.Execution.{LeadsToTold, Tells, hits_on}
+use Rattle.prem_machine.specs.Execution.{LeadsToTold, ToldBehind, hits_on}
 use Rattle.prem_machine.specs.declared.execution.Execution.{Execution}
 use Rattle.prem_machine.proofs.Telling.{cores_told, outputs_told}
 
@@ -97,7 +97,7 @@ pub onward_told : {P : Type 0} (p : Setting) (requests : List Request) (task unt
     IsLone task until requests (state_of x) → Stands p requests x → x.trapped ≡ None → task < length x.work.cores.items → Leaves p task x w ts time hits stores →
     LeadsToTold p.plant task (work_in x.work (items_of x.facts.tasks)) (work_in w (items_of ts)) time hits stores before told → x.now + time ≤ until →
     put_out (items_of x.facts.tasks) + time < log_size → length (items_of x.facts.intervals) < log_size →
-    Tells (rule_in (setup_in p)) (setup_in p) requests time (state_of x) before told
+    ToldBehind (rule_in (setup_in p)) (setup_in p) requests time (state_of x) before told
 onward_told p requests task until x w ts time hits stores before told h s none lt l r le room less =
     let b = spot_at r.leads.task w.cache time hits stores in
     let count = cores_told p requests x s in

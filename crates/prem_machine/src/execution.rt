@@ -17,7 +17,7 @@ pub struct Execution {
 
 /// What is seen of a machine before it executes an instruction.
 #[derive(Clone, Copy, PartialEq, Eq, Debug)]
-pub(crate) struct Seen {
+pub(crate) struct ExecutionView {
     pub pc: u32,
     pub now: u64,
     pub misses: u64,
@@ -26,7 +26,7 @@ pub(crate) struct Seen {
 
 /// The instruction that was executed between two views of a machine.
 #[inline(always)]
-pub(crate) fn execution_since(before: Seen, behind: Seen) -> Execution
+pub(crate) fn execution_since(before: ExecutionView, behind: ExecutionView) -> Execution
     requires now { before.now ≤ behind.now }
     requires misses { before.misses ≤ behind.misses }
     requires backs { before.backs ≤ behind.backs }
@@ -48,7 +48,7 @@ pub(crate) fn has_room<const TOLD: bool>(told: &Vec<Execution>) -> bool
     !TOLD || told.len() < told.capacity()
 }
 
-/// Tells of an instruction, where they are told.
+/// ToldBehind of an instruction, where they are told.
 #[inline(always)]
 pub(crate) fn tell<const TOLD: bool>(told: &mut Vec<Execution>, execution: Execution)
     requires { TOLD ≡ true → vec_len told.old < vec_capacity told.old }

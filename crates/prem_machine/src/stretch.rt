@@ -1,5 +1,5 @@
 // Instructions that follow each other while the bus has nothing to do.
-use crate::execution::{Execution, Seen, execution_since, has_room, tell};
+use crate::execution::{Execution, ExecutionView, execution_since, has_room, tell};
 use crate::hits::follow_in;
 use crate::issue::Near;
 use crate::log::room_left;
@@ -27,7 +27,7 @@ impl<P: Policy> Parts<P> {
     ghost use Rattle.prem_cycle.specs.State.{rule_in};
     ghost use Rattle.prem_cycle.specs.Cycle.{is_over, log_size};
     ghost use Rattle.prem_cycle.specs.Run.{cycles_of};
-    ghost use Rattle.prem_machine.specs.Execution.{IsOne, Tells, execution_since, seen_of};
+    ghost use Rattle.prem_machine.specs.Execution.{IsOneExecution, ToldBehind, execution_since, seen_of};
     ghost use Rattle.prem_machine.specs.Issue.Near.{IsNear};
     ghost use Rattle.prem_machine.specs.Log.{put_out};
     ghost use Rattle.prem_machine.specs.Work.{setup_in};
@@ -84,7 +84,7 @@ impl<P: Policy> Parts<P> {
         ensures state { state_of self.new ≡ cycles_of (rule_in (setup_in setting.now)) (setup_in setting.now) requests.now
             (self.new.now - self.old.now) (state_of self.old) }
         ensures silent { AreSilent (rule_in (setup_in setting.now)) (setup_in setting.now) requests.now (self.new.now - self.old.now) (state_of self.old) }
-        ensures told { TOLD ≡ true → Tells (rule_in (setup_in setting.now)) (setup_in setting.now) requests.now (self.new.now - self.old.now) (state_of self.old)
+        ensures told { TOLD ≡ true → ToldBehind (rule_in (setup_in setting.now)) (setup_in setting.now) requests.now (self.new.now - self.old.now) (state_of self.old)
             told.old.items told.new.items }
         ensures stands { Stands setting.now requests.now self.new }
         ensures runs { Runs self.new.now (4 * self.new.now) requests.now self.new }
@@ -140,7 +140,7 @@ impl<P: Policy> Parts<P> {
         ensures state { state_of self.new ≡ cycles_of (rule_in (setup_in setting.now)) (setup_in setting.now) requests.now
             (self.new.now - self.old.now) (state_of self.old) }
         ensures silent { AreSilent (rule_in (setup_in setting.now)) (setup_in setting.now) requests.now (self.new.now - self.old.now) (state_of self.old) }
-        ensures told { TOLD ≡ true → Tells (rule_in (setup_in setting.now)) (setup_in setting.now) requests.now (self.new.now - self.old.now) (state_of self.old)
+        ensures told { TOLD ≡ true → ToldBehind (rule_in (setup_in setting.now)) (setup_in setting.now) requests.now (self.new.now - self.old.now) (state_of self.old)
             told.old.items told.new.items }
         ensures stands { Stands setting.now requests.now self.new }
         ensures runs { Runs self.new.now (4 * self.new.now) requests.now self.new }
@@ -178,7 +178,7 @@ impl<P: Policy> Parts<P> {
         ensures state { state_of self.new ≡ cycles_of (rule_in (setup_in setting.now)) (setup_in setting.now) requests.now
             (self.new.now - self.old.now) (state_of self.old) }
         ensures silent { AreSilent (rule_in (setup_in setting.now)) (setup_in setting.now) requests.now (self.new.now - self.old.now) (state_of self.old) }
-        ensures one { self.old.now < self.new.now → IsOne (rule_in (setup_in setting.now)) (setup_in setting.now) requests.now lone.task
+        ensures one { self.old.now < self.new.now → IsOneExecution (rule_in (setup_in setting.now)) (setup_in setting.now) requests.now lone.task
             (self.new.now - self.old.now) (state_of self.old) }
         ensures stands { Stands setting.now requests.now self.new }
         ensures runs { Runs self.new.now (4 * self.new.now) requests.now self.new }
@@ -224,11 +224,11 @@ impl<P: Policy> Parts<P> {
 
     /// What is seen before or behind an instruction of a task.
     #[inline(always)]
-    fn see(&self, task: TaskId) -> Seen
+    fn see(&self, task: TaskId) -> ExecutionView
         requires { task < length self.now.work.cores.items }
         ensures { result ≡ seen_of task self.entry.now }
     {
-        Seen {
+        ExecutionView {
             pc: self.work.cores[usize::from(task)].pc(),
             now: self.now,
             misses: self.facts.misses,
@@ -236,9 +236,9 @@ impl<P: Policy> Parts<P> {
         }
     }
 
-    /// Tells of the instruction that was executed since, if one was, where they are told.
+    /// ToldBehind of the instruction that was executed since, if one was, where they are told.
     #[inline(always)]
-    fn tell<const TOLD: bool>(&self, before: Seen, task: TaskId, told: &mut Vec<Execution>)
+    fn tell<const TOLD: bool>(&self, before: ExecutionView, task: TaskId, told: &mut Vec<Execution>)
         requires task { task < length self.now.work.cores.items }
         requires room { TOLD ≡ true → vec_len told.old < vec_capacity told.old }
         requires misses { before.now < self.now.now → before.misses ≤ self.now.facts.misses }
@@ -270,7 +270,7 @@ impl<P: Policy> Parts<P> {
         ensures state { state_of self.new ≡ cycles_of (rule_in (setup_in setting.now)) (setup_in setting.now) requests.now
             (self.new.now - self.old.now) (state_of self.old) }
         ensures silent { AreSilent (rule_in (setup_in setting.now)) (setup_in setting.now) requests.now (self.new.now - self.old.now) (state_of self.old) }
-        ensures told { TOLD ≡ true → Tells (rule_in (setup_in setting.now)) (setup_in setting.now) requests.now (self.new.now - self.old.now) (state_of self.old)
+        ensures told { TOLD ≡ true → ToldBehind (rule_in (setup_in setting.now)) (setup_in setting.now) requests.now (self.new.now - self.old.now) (state_of self.old)
             told.old.items told.new.items }
         ensures stands { Stands setting.now requests.now self.new }
         ensures runs { Runs self.new.now (4 * self.new.now) requests.now self.new }

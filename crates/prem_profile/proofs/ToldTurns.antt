@@ -18,7 +18,7 @@ use Rattle.prem_cycle.specs.FactsOf.{stop_of, stop_trapped}
 use Rattle.prem_cycle.specs.Inputs.{image_run, setup_of}
 use Rattle.prem_cycle.specs.Run.{coming_step, cycles_of}
 use Rattle.prem_cycle.proofs.RunLaws.{cycles_of-add, step_of-stays}
-use Rattle.prem_machine.specs.Execution.{AreTold, IsOne, IsTold, Tells, cycles_in, touched}
+use Rattle.prem_machine.specs.Execution.{AreExecutions, IsOneExecution, IsExecution, ToldBehind, cycles_in, touched}
 use Rattle.prem_machine.specs.States.{Running, requests_in, setup_in, state_of}
 use Rattle.prem_machine.specs.declared.execution.Execution.{Execution}
 use Rattle.prem_profile.specs.declared.ahead.Ahead.{Ahead}
@@ -28,7 +28,7 @@ use Rattle.prem_profile.specs.declared.home.Home.TheVariants.{At}
 use Rattle.prem_profile.specs.Spent.{cost_with, cycle_cost, home_after, home_of, home_with, plus, spent, waiting_home, where_so}
 use Rattle.prem_profile.specs.Issuer.{coming_pc, issuer_in, pc_at}
 use Rattle.prem_profile.specs.Turn.{AreSeen, IsTurn, has_executed, seen_cost, seen_home, seen_of}
-use Rattle.prem_profile.specs.Ahead.{IsAhead, IsAheadBy, cost_of, run_after}
+use Rattle.prem_profile.specs.Ahead.{IsAhead, IsAheadBy, execution_cost, run_after}
 use Rattle.prem_profile.proofs.Executes.{both_counted, step_told, touches_of}
 use Rattle.prem_profile.proofs.Profiled.{IsProfiled}
 use Rattle.prem_profile.proofs.Turns.{none_by, one_seen, same_cost, where_plus}
@@ -71,7 +71,7 @@ seen_same : (before : Home) (s t u : MachineState) → u.log.counts.hits ≡ t.l
 seen_same before s t u hits misses =
     ap₂ (λ h m. cond (nat_lt s.log.counts.hits h || nat_lt s.log.counts.misses m) (At (coming_pc s)) (waiting_home s.now s.sched s.core.mode before)) hits misses
 
-module _ (rule : ReplacementRule) (p : Setup) (requests : List Request) (task n : ℕ) (s : MachineState) (one : IsOne rule p requests task n s) (before : Home) where
+module _ (rule : ReplacementRule) (p : Setup) (requests : List Request) (task n : ℕ) (s : MachineState) (one : IsOneExecution rule p requests task n s) (before : Home) where
   seen_at : ℕ → Home
   seen_at m = seen_home (seen_of before s) (cycles_of rule p requests m s)
 
@@ -130,7 +130,7 @@ module _ (rule : ReplacementRule) (p : Setup) (requests : List Request) (task n 
   turn_to (suc (suc m)) from le = waits_on (suc m) (omega arith) (omega (arith, le)) (turn_to (suc m) (omega arith) (omega (arith, le)))
 
 -- the cycles of an instruction are a turn
-pub one_turn : (rule : ReplacementRule) (p : Setup) (requests : List Request) (task n : ℕ) (s : MachineState) → IsOne rule p requests task n s → AreSeen rule p requests n s
+pub one_turn : (rule : ReplacementRule) (p : Setup) (requests : List Request) (task n : ℕ) (s : MachineState) → IsOneExecution rule p requests task n s → AreSeen rule p requests n s
 one_turn rule p requests task n s one before = turn_to rule p requests task n s one before n one.some (omega arith)
 
 -- ---- what is told of it is seen
@@ -148,7 +148,7 @@ less_or a b c d more le le' = by (nat_lt a b) refl (nat_lt c d) refl
 
 pub record IsSeenAs (x : Execution) (before : Home) (s t : MachineState) : Type 0 where
   pub home_is : At x.pc ≡ seen_home (seen_of before s) t
-  pub cost_is : cost_of x ≡ seen_cost (seen_of before s) t
+  pub cost_is : execution_cost x ≡ seen_cost (seen_of before s) t
 
 -- hits never become fewer in a cycle
 hits_more : (rule : ReplacementRule) (p : Setup) (requests : List Request) (s : MachineState) → s.log.counts.hits ≤ (cycles_of rule p requests 1 s).log.counts.hits
@@ -158,7 +158,7 @@ hits_more rule p requests s =
     let next = ap (λ (x : MachineState). x.log.counts.hits) (cycles_next rule p requests 0 s ∙ ap (step_of rule p requests) first) in
     omega (arith, told, next)
 
-pub told_seen : (rule : ReplacementRule) (p : Setup) (requests : List Request) (x : Execution) (before : Home) (s : MachineState) → IsTold rule p requests x s →
+pub told_seen : (rule : ReplacementRule) (p : Setup) (requests : List Request) (x : Execution) (before : Home) (s : MachineState) → IsExecution rule p requests x s →
     IsSeenAs x before s (cycles_of rule p requests x.cycles s)
 told_seen rule p requests x before s h =
     let t = cycles_of rule p requests x.cycles s in
@@ -172,12 +172,12 @@ told_seen rule p requests x before s h =
     let passed = one.passes x.cycles (omega arith) in
     record {
       home_is = sym (ap (λ b. cond b (At (coming_pc s)) (waiting_home s.now s.sched s.core.mode before)) executed ∙ ap At pc);
-      cost_is = same_cost (cost_of x) (seen_cost (seen_of before s) t) (sym (ap (λ b. cond b 1 0) executed)) (omega (arith, passed)) (omega (arith, h.misses)) (omega (arith, h.backs));
+      cost_is = same_cost (execution_cost x) (seen_cost (seen_of before s) t) (sym (ap (λ b. cond b 1 0) executed)) (omega (arith, passed)) (omega (arith, h.misses)) (omega (arith, h.backs));
     }
 
 -- ---- the run goes on before each of them
 
-over_stays : (rule : ReplacementRule) (p : Setup) (requests : List Request) (task n : ℕ) (s : MachineState) → IsOne rule p requests task n s → (b : Bool) → is_over s ≡ b → b ≡ false
+over_stays : (rule : ReplacementRule) (p : Setup) (requests : List Request) (task n : ℕ) (s : MachineState) → IsOneExecution rule p requests task n s → (b : Bool) → is_over s ≡ b → b ≡ false
 over_stays rule p requests task n s one true over =
     let first = cycles_first rule p requests s in
     let next = ap (λ (x : MachineState). x.now) (cycles_next rule p requests 0 s ∙ ap (step_of rule p requests) first ∙ step_of-stays rule p requests s over) in
@@ -186,7 +186,7 @@ over_stays rule p requests task n s one true over =
     absurd (omega (arith, next, passed))
 over_stays rule p requests task n s one false over = refl
 
-pub one_goes : (rule : ReplacementRule) (p : Setup) (requests : List Request) (task n : ℕ) (s : MachineState) → IsOne rule p requests task n s → is_over s ≡ false
+pub one_goes : (rule : ReplacementRule) (p : Setup) (requests : List Request) (task n : ℕ) (s : MachineState) → IsOneExecution rule p requests task n s → is_over s ≡ false
 one_goes rule p requests task n s one = over_stays rule p requests task n s one (is_over s) refl
 
 -- ---- a machine that is ahead
@@ -231,7 +231,7 @@ module _ (image : Image) (input : RunInput) (at limit : ℕ) (m : Running) (a : 
   next_ahead : (x : Execution) → a.booked < length a.told.items → get_or a.told.items a.booked x ≡ x → IsAheadBy image input at limit m (x ∷ drop (a.booked + 1) a.told.items)
   next_ahead x lt is = subst (IsAheadBy image input at limit m) (dropped a.told.items a.booked x lt is) h.rest
 
-  pub next_told : (x : Execution) → a.booked < length a.told.items → get_or a.told.items a.booked x ≡ x → IsTold Rule (setup_of image) Asked x (run_after image input at)
+  pub next_told : (x : Execution) → a.booked < length a.told.items → get_or a.told.items a.booked x ≡ x → IsExecution Rule (setup_of image) Asked x (run_after image input at)
   next_told x lt is = (next_ahead x lt is).told.0
 
   pub next_within : (x : Execution) → a.booked < length a.told.items → get_or a.told.items a.booked x ≡ x → at + x.cycles ≤ limit
@@ -253,7 +253,7 @@ module _ (image : Image) (input : RunInput) (at limit : ℕ) (m : Running) (a : 
               requests = n.requests;
               state = n.state ∙ ap (run_after image input) e;
               within = omega (arith, le);
-              told = subst (AreTold Rule (setup_of image) Asked rest) (at_rest image input at x.cycles) n.told.1;
+              told = subst (AreExecutions Rule (setup_of image) Asked rest) (at_rest image input at x.cycles) n.told.1;
             });
       }
 
@@ -275,7 +275,7 @@ goes_limit at s goes now =
 pub goes_ahead : (image : Image) (input : RunInput) (at limit : ℕ) (m m' : Running) (a b : Ahead) → IsAhead image input at limit m a → length a.told.items ≤ a.booked → b.booked ≡ 0 →
     setup_in m' ≡ setup_in m → requests_in m' ≡ requests_in m → (run_after image input at).now ≡ at →
     state_of m' ≡ cycles_of (rule_in (setup_in m)) (setup_in m) (requests_in m) ((state_of m').now - (state_of m).now) (state_of m) → (state_of m).now ≤ (state_of m').now →
-    (state_of m').now ≤ limit → Tells (rule_in (setup_in m)) (setup_in m) (requests_in m) ((state_of m').now - (state_of m).now) (state_of m) [] b.told.items → IsAhead image input at limit m' b
+    (state_of m').now ≤ limit → ToldBehind (rule_in (setup_in m)) (setup_in m) (requests_in m) ((state_of m').now - (state_of m).now) (state_of m) [] b.told.items → IsAhead image input at limit m' b
 goes_ahead image input at limit m m' a b h le none setup requests now state from within tells =
     let p = setup_of image in
     let q = items_of input.requests in
@@ -283,7 +283,7 @@ goes_ahead image input at limit m m' a b h le none setup requests now state from
     let here = stands_at image input at limit m a h le in
     let n = (state_of m').now - (state_of m).now in
     let there : (state_of m).now ≡ at = ap (λ (x : MachineState). x.now) here ∙ now in
-    let T : Setup → List Request → MachineState → Type 0 = λ x y z. Tells (rule_in x) x y n z [] b.told.items in
+    let T : Setup → List Request → MachineState → Type 0 = λ x y z. ToldBehind (rule_in x) x y n z [] b.told.items in
     let t : T p q (run_after image input at) = subst (λ z. T p q z) here (subst (λ y. T p y (state_of m)) rest.requests (subst (λ x. T x (requests_in m) (state_of m)) rest.setup tells)) in
     let S : Setup → List Request → MachineState → Type 0 = λ x y z. state_of m' ≡ cycles_of (rule_in x) x y n z in
     let s : S p q (run_after image input at) = subst (λ z. S p q z) here (subst (λ y. S p y (state_of m)) rest.requests (subst (λ x. S x (requests_in m) (state_of m)) rest.setup state)) in
@@ -299,7 +299,7 @@ goes_ahead image input at limit m m' a b h le none setup requests now state from
             requests = requests ∙ rest.requests;
             state = s ∙ at_rest image input at n ∙ ap (λ k. run_after image input (at + k)) all;
             within = omega (arith, all, there, from, within);
-            told = subst (λ xs. AreTold (rule_in p) p q xs (run_after image input at)) (sym t.added) t.are;
+            told = subst (λ xs. AreExecutions (rule_in p) p q xs (run_after image input at)) (sym t.added) t.are;
           });
     }
 

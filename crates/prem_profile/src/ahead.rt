@@ -6,7 +6,7 @@ ghost use Rattle.prem_cycle.specs.Cycle.{is_over};
 ghost use Rattle.prem_cycle.specs.FactsOf.{stop_of};
 ghost use Rattle.prem_cycle.specs.Inputs.{setup_of};
 ghost use Rattle.prem_profile.specs.Turn.{AreSeen, seen_cost, seen_home, seen_of};
-ghost use Rattle.prem_profile.specs.Ahead.{IsAhead, cost_of, run_after};
+ghost use Rattle.prem_profile.specs.Ahead.{IsAhead, execution_cost, run_after};
 
 use crate::cost::Cost;
 use crate::home::Home;
@@ -31,7 +31,7 @@ pub struct Ahead {
 
 /// Some cycles of a run that are all spent at one home, and why it stops behind them.
 #[derive(Clone, Copy, PartialEq, Eq, Debug)]
-pub struct Turn {
+pub struct SpentTurn {
     /// The cycle up to which they go.
     pub end: u64,
     pub stop: Stop,
@@ -51,8 +51,8 @@ pub fn none_ahead(alloc: Global) -> Result<Ahead, AllocError>
 }
 
 /// What an instruction that is told costs.
-fn cost_of(execution: Execution) -> Cost
-    ensures { result ≡ cost_of execution }
+fn execution_cost(execution: Execution) -> Cost
+    ensures { result ≡ execution_cost execution }
 {
     Cost {
         instructions: 1,
@@ -97,7 +97,7 @@ fn told_turn<P: Policy>(
     before: Home,
     at: u64,
     limit: u64,
-) -> Turn
+) -> SpentTurn
     requires ahead { IsAhead image.now input.now at limit machine.old ahead.old }
     requires some { ahead.old.booked < length ahead.old.told.items }
     requires now { (run_after image.now input.now at).now ≡ at }
@@ -115,11 +115,11 @@ fn told_turn<P: Policy>(
     ahead.booked += 1;
     let end = at + execution.cycles;
     let stop = stop_behind(image, input, machine, ahead, end, limit);
-    Turn {
+    SpentTurn {
         end,
         stop,
         home: Home::At(execution.pc),
-        cost: cost_of(execution),
+        cost: execution_cost(execution),
     }
 }
 
@@ -161,7 +161,7 @@ pub fn next_turn<P: Policy>(
     before: Home,
     at: u64,
     limit: u64,
-) -> Turn
+) -> SpentTurn
     requires ahead { IsAhead image.now input.now at limit machine.old ahead.old }
     requires now { (run_after image.now input.now at).now ≡ at }
     requires going { is_over (run_after image.now input.now at) ≡ false }
@@ -181,7 +181,7 @@ pub fn next_turn<P: Policy>(
     }
     let end = turn_end(machine, at, limit);
     let spent = go_on(machine, before, end);
-    Turn {
+    SpentTurn {
         end,
         stop: spent.stop,
         home: spent.home,

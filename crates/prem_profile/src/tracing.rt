@@ -15,8 +15,8 @@ ghost use Rattle.prem_profile.specs.Account.{each_row, goes_on, row_cost};
 ghost use Rattle.prem_profile.specs.Calls.{AreOfCode, call_cost, narrow, run_calls};
 ghost use Rattle.prem_profile.specs.declared.home.Home.TheVariants.{Rest};
 
-use crate::ahead::{next_turn, none_ahead};
 use crate::account::{Account, RowTable, book, new_account, row_of};
+use crate::ahead::{next_turn, none_ahead};
 use crate::calls::{Calls, FunctionTable, call, new_calls, settle};
 use crate::cost::Cost;
 use crate::home::Home;
@@ -286,7 +286,15 @@ pub fn profile<P: Policy>(
     let mut at = 0u64;
     let mut stop = machine.run_to(at);
     'turns: while has_turn(at, limit, stop) {
-        let turn = next_turn(image, input, &mut machine, &mut ahead, account.home, at, limit);
+        let turn = next_turn(
+            image,
+            input,
+            &mut machine,
+            &mut ahead,
+            account.home,
+            at,
+            limit,
+        );
         let row = row_of(table, turn.home);
         book(&mut account, turn.home, row, turn.cost);
         call(&mut calls, functions, row, turn.cost);

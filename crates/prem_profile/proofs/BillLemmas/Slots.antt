@@ -174,24 +174,24 @@ module _ (low : ℕ) (x : Item) (from : IsFrom low x.home) where
   slots_by_number slots bill zero is lt are =
       subst (λ ss. AreSlots low ss (items_with bill 0 x)) (sym (new_slot slots (length bill)))
       (subst (AreSlots low (slice_set slots own (length bill + 1))) (sym (new_item bill x)) each) where
-    here : (slot : ℕ) → slot ≡ own → slice_index_or (slice_set slots own (length bill + 1)) slot 0 ≡ place_of low slot (bill ++ x ∷ [])
-    here slot same =
-        ap (λ s. slice_index_or (slice_set slots own (length bill + 1)) s 0) same ∙ get_or-set_same slots own (length bill + 1) 0 lt
-        ∙ sym (last_place bill is) ∙ ap (λ s. place_of low s (bill ++ x ∷ [])) (sym same)
+        here : (slot : ℕ) → slot ≡ own → slice_index_or (slice_set slots own (length bill + 1)) slot 0 ≡ place_of low slot (bill ++ x ∷ [])
+        here slot same =
+            ap (λ s. slice_index_or (slice_set slots own (length bill + 1)) s 0) same ∙ get_or-set_same slots own (length bill + 1) 0 lt
+            ∙ sym (last_place bill is) ∙ ap (λ s. place_of low s (bill ++ x ∷ [])) (sym same)
 
-    test : (slot : ℕ) → slot ≢ own → (own == slot) ≡ false
-    test slot ne = by (own == slot) refl where
-      by : (t : Bool) → (own == slot) ≡ t → t ≡ false
-      by true e = absurd (ne (sym (are_equal own slot e)))
-      by false e = refl
+        test : (slot : ℕ) → slot ≢ own → (own == slot) ≡ false
+        test slot ne = by (own == slot) refl where
+          by : (t : Bool) → (own == slot) ≡ t → t ≡ false
+          by true e = absurd (ne (sym (are_equal own slot e)))
+          by false e = refl
 
-    there : (slot : ℕ) → slot ≢ own → slot < length slots → slice_index_or (slice_set slots own (length bill + 1)) slot 0 ≡ place_of low slot (bill ++ x ∷ [])
-    there slot ne less = get_or-set_other slots own slot (length bill + 1) 0 ne ∙ are slot less ∙ sym (other_places slot (test slot ne) bill)
+        there : (slot : ℕ) → slot ≢ own → slot < length slots → slice_index_or (slice_set slots own (length bill + 1)) slot 0 ≡ place_of low slot (bill ++ x ∷ [])
+        there slot ne less = get_or-set_other slots own slot (length bill + 1) 0 ne ∙ are slot less ∙ sym (other_places slot (test slot ne) bill)
 
-    each : AreSlots low (slice_set slots own (length bill + 1)) (bill ++ x ∷ [])
-    each slot less =
-        let size = length-set slots own (length bill + 1) in
-        ⊎_elim (λ (same : slot ≡ own). here slot same) (λ (ne : slot ≢ own). there slot ne (omega (arith, less, size))) (cases_eq slot own)
+        each : AreSlots low (slice_set slots own (length bill + 1)) (bill ++ x ∷ [])
+        each slot less =
+            let size = length-set slots own (length bill + 1) in
+            ⊎_elim (λ (same : slot ≡ own). here slot same) (λ (ne : slot ≢ own). there slot ne (omega (arith, less, size))) (cases_eq slot own)
 
   -- one more
   pub items_put : (slots : List ℕ) (bill : Bill) → AreSlots low slots bill → AreFrom low bill → own < length slots → items_with bill (slice_index_or slots own 0) x ≡ with_item bill x

@@ -1,7 +1,7 @@
 use Rattle.std.proofs.Common.{◌≡◌, ◌≤◌, ◌-◌, List, [], length, refl, ap, sym, ◌∙◌, subst, arith}
 use Rattle.prem_cycle.specs.State.{MachineState, rule_in}
 use Rattle.prem_cycle.specs.Cycle.{is_over}
-use Rattle.prem_machine.specs.Execution.{Tells}
+use Rattle.prem_machine.specs.Execution.{ToldBehind}
 use Rattle.prem_machine.specs.States.{Running, requests_in, setup_in, state_of}
 use Rattle.prem_machine.specs.declared.execution.Execution.{Execution}
 use Rattle.prem_profile.proofs.ToldTurns.{goes_ahead, stands_at}
@@ -22,4 +22,4 @@ returns g c =
     let le : length a.told.items ≤ a.booked = omega (arith, c.if-ahead-len.false, c.len.ensures, a.told.ok.0) in
     goes_ahead c.args.image.now c.args.input.now c.args.at c.args.limit m c.execute_to.new.self a (record { told = c.execute_to.new.told; booked = 0 }) c.requires.ahead le refl
     (ap (λ (r : Running). setup_in r) e.new) (ap (λ (r : Running). requests_in r) e.new) c.requires.now (ap (λ (r : Running). state_of r) e.new) e.from e.within
-    (subst (λ (xs : List Execution). Tells (rule_in (setup_in m)) (setup_in m) (requests_in m) n (state_of m) xs c.execute_to.new.told.items) c.clear.ensures.items e.told)
+    (subst (λ (xs : List Execution). ToldBehind (rule_in (setup_in m)) (setup_in m) (requests_in m) n (state_of m) xs c.execute_to.new.told.items) c.clear.ensures.items e.told)

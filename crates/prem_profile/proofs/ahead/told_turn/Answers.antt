@@ -48,5 +48,5 @@ returns-clause-cost g c =
     let x = c.index-execution.result.now in
     let s = run_after image input c.args.at in
     let told = next_told image input c.args.at c.args.limit c.args.machine.now c.args.ahead.now c.requires.ahead x c.requires.some (sym c.index-execution.ensures) in
-    c.cost_of.ensures
+    c.execution_cost.ensures
     ∙ (told_seen (rule_in (setup_of image)) (setup_of image) (items_of input.requests) x c.args.before s told).cost_is ∙ ap (seen_cost (seen_of c.args.before s)) (at_rest image input c.args.at x.cycles)

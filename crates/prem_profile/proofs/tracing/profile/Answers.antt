@@ -26,9 +26,9 @@ turns-init g c =
     let rows = length c.args.costs.items in
     let first =
     first_profiled c.args.image.now c.args.input.now c.args.table.now.tasks c.args.table.now.words.items rows
-          c.args.limit c.run_to-stop.result c.in_ok-machine.machine c.run_to-stop.new.self
-          c.new_account-account.result.home c.new_account-account.result.total c.new_account-account.result.costs.items new.setup new.requests new.state
-          run.state run.setup run.requests run.stop empty.home empty.total (empty.costs ∙ c.requires.costs) in
+    c.args.limit c.run_to-stop.result c.in_ok-machine.machine c.run_to-stop.new.self
+    c.new_account-account.result.home c.new_account-account.result.total c.new_account-account.result.costs.items new.setup new.requests new.state
+    run.state run.setup run.requests run.stop empty.home empty.total (empty.costs ∙ c.requires.costs) in
     record {
       profiled = as_standing c.args.image.now c.args.input.now c.args.table.now.tasks c.args.table.now.words.items rows c.args.limit 0 c.run_to-stop.result c.run_to-stop.new.self
           c.new_account-account.result.home c.new_account-account.result.total c.new_account-account.result.costs.items first;

@@ -4,7 +4,7 @@ use Rattle.prem_machine.proofs.Prelude.{with_items_is}
 use Rattle.prem_machine.proofs.Onward.{Leaves, onward_lone, onward_put, onward_runs, onward_silent, onward_stands, onward_state, onward_told, room_for}
 use Rattle.prem_machine.proofs.OneByOne.{tells_none}
 use Rattle.prem_machine.proofs.Stretching.{silent_stays, stays}
-use Rattle.prem_machine.specs.Execution.{LeadsToTold, Tells}
+use Rattle.prem_machine.specs.Execution.{LeadsToTold, ToldBehind}
 use Rattle.std.specs.Vec.{with_items}
 use Rattle.prem_machine.proofs.parts.Parts.follow.Goals as goal
 
@@ -139,7 +139,7 @@ returns-clause-told g c is_told =
     subst (λ k. W (items_of x.facts.tasks) (items_of (tasks g c)) k) c.from-k.ensures
     (subst (λ ts. W (items_of x.facts.tasks) ts c.from-k.result) (sym (there g c))
     (subst (λ ts. W ts done.new.tasks c.from-k.result) c.items_mut.ensures.value (done.ensures.told is_told))) in
-    let T : ℕ → Type 0 = λ n. Tells (rule_in (setup_in p)) (setup_in p) c.args.requests.now n (state_of x) before told in
+    let T : ℕ → Type 0 = λ n. ToldBehind (rule_in (setup_in p)) (setup_in p) c.args.requests.now n (state_of x) before told in
     let t : time ≡ x.now + time - x.now = omega arith in
     subst T t (onward_told p c.args.requests.now c.args.lone.task c.args.lone.until x done.new.work (tasks g c) time done.result.hits done.result.stores before told
     c.requires.lone c.requires.stands c.requires.trapped (here g c) (leaves g c) r le.0 (omega (arith, le.1, c.requires.room)) c.requires.intervals)

@@ -5,7 +5,7 @@ use Rattle.prem_machine.proofs.Stretching.{follows_far, follows_none, follows_on
 use Rattle.std.specs.Prelude.{◌<◌, ◌≤◌, Vec}
 use Rattle.std.specs.Global.{Global}
 use Rattle.prem_machine.specs.declared.execution.Execution.{Execution}
-use Rattle.prem_machine.specs.declared.execution.Seen.{Seen}
+use Rattle.prem_machine.specs.declared.execution.ExecutionView.{ExecutionView}
 use Rattle.prem_machine.proofs.OneByOne.{one_grows, task_there, tells_none, tells_on, tells_turn}
 use Rattle.prem_machine.proofs.parts.Parts.stretch.Goals as goal
 
@@ -68,8 +68,8 @@ instructions-preserved g c =
             tells_turn p c.args.requests.now c.args.self.now c.instructions.self old new lone.task c.see-before.result c.args.told.now.items c.instructions.told.items c.follow_where-rest.new.told.items
             c.tell.new.told.items c.instructions.invariant.0.begun d.from e.from c.instructions.invariant.0.state f.state e.state (c.instructions.invariant.1.1 is_told) (d.told is_told) e.one d.stands
             (task_there p c.args.requests.now old lone.task lone.until d.lone d.stands d.runs) c.see-before.ensures
-            (λ went. c.tell.ensures.some is_told (subst (λ (v : Seen). v.now < new.now) (sym c.see-before.ensures) went))
-            (λ stays. ap (λ (v : Vec Execution Global). v.items) (c.tell.ensures.none (subst (λ (v : Seen). new.now ≤ v.now) (sym c.see-before.ensures) stays))),
+            (λ went. c.tell.ensures.some is_told (subst (λ (v : ExecutionView). v.now < new.now) (sym c.see-before.ensures) went))
+            (λ stays. ap (λ (v : Vec Execution Global). v.items) (c.tell.ensures.none (subst (λ (v : ExecutionView). new.now ≤ v.now) (sym c.see-before.ensures) stays))),
       ),
     )
 
@@ -121,8 +121,8 @@ returns-then-not-goes_on-clause-told g c is_told =
     tells_turn p c.args.requests.now c.args.self.now c.instructions.self old new lone.task c.see-before.result c.args.told.now.items c.instructions.told.items c.follow_where-rest.new.told.items
     c.tell.new.told.items c.instructions.invariant.0.begun d.from e.from c.instructions.invariant.0.state f.state e.state (c.instructions.invariant.1.1 is_told) (d.told is_told) e.one d.stands
     (task_there p c.args.requests.now old lone.task lone.until d.lone d.stands d.runs) c.see-before.ensures
-    (λ went. c.tell.ensures.some is_told (subst (λ (v : Seen). v.now < new.now) (sym c.see-before.ensures) went))
-    (λ stays. ap (λ (v : Vec Execution Global). v.items) (c.tell.ensures.none (subst (λ (v : Seen). new.now ≤ v.now) (sym c.see-before.ensures) stays)))
+    (λ went. c.tell.ensures.some is_told (subst (λ (v : ExecutionView). v.now < new.now) (sym c.see-before.ensures) went))
+    (λ stays. ap (λ (v : Vec Execution Global). v.items) (c.tell.ensures.none (subst (λ (v : ExecutionView). new.now ≤ v.now) (sym c.see-before.ensures) stays)))
 
 pub returns-then-rest-le1-clause-told : goal.returns-then-rest-le1-clause-told
 returns-then-rest-le1-clause-told g c is_told =
@@ -141,8 +141,8 @@ tell-requires-clause-misses g c went =
     let e = c.step-goes_on.ensures in
     let seen = sym c.see-before.ensures in
     let grows = one_grows (rule_in (setup_in p)) (setup_in p) c.args.requests.now c.in-Some.lone.task (new.now - old.now) (state_of old) (state_of new)
-    (e.one (subst (λ (v : Seen). v.now < new.now) c.see-before.ensures went)) e.state in
-    subst (λ (v : Seen). v.misses ≤ new.facts.misses) seen grows.misses
+    (e.one (subst (λ (v : ExecutionView). v.now < new.now) c.see-before.ensures went)) e.state in
+    subst (λ (v : ExecutionView). v.misses ≤ new.facts.misses) seen grows.misses
 
 pub tell-requires-clause-backs : goal.tell-requires-clause-backs
 tell-requires-clause-backs g c went =
@@ -152,5 +152,5 @@ tell-requires-clause-backs g c went =
     let e = c.step-goes_on.ensures in
     let seen = sym c.see-before.ensures in
     let grows = one_grows (rule_in (setup_in p)) (setup_in p) c.args.requests.now c.in-Some.lone.task (new.now - old.now) (state_of old) (state_of new)
-    (e.one (subst (λ (v : Seen). v.now < new.now) c.see-before.ensures went)) e.state in
-    subst (λ (v : Seen). v.backs ≤ new.facts.writebacks) seen grows.backs
+    (e.one (subst (λ (v : ExecutionView). v.now < new.now) c.see-before.ensures went)) e.state in
+    subst (λ (v : ExecutionView). v.backs ≤ new.facts.writebacks) seen grows.backs
