@@ -29,7 +29,6 @@ pub fn set_bills_add_up()
 
 /// The profile of a set's bound keeps to the grammar of callgrind's format, and its lines add up to what one job of each task takes at most: told up
 /// to 2^41, and exactly where each is at most 2^40.
-#[tactic(auto, using(crate::proofs::BoundLemmas::Profile::bounds_add_up))]
 pub fn bounds_add_up()
     ensures { BoundsAddUp }
 {}
