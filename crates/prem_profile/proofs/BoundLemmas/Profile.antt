@@ -34,7 +34,9 @@ all_come p k (t ∷ ts) short =
 
 all_told : (p : Plant) (k : ℕ) (tasks : List Placed) → Comes (joined (bills_from p k tasks)) (wcets p tasks)
 all_told p k [] = none
-all_told p k (t ∷ ts) = both (record { is = bills_add_up p t.plans k t.task.program t.at }) (all_told p (k + 1) ts)
+all_told p k (t ∷ ts) =
+    let here : Comes (task_bill p t.plans k t.task.program t.at) (wcet_of p t.plans t.task.program t.at) = record { is = bills_add_up p t.plans k t.task.program t.at } in
+    both here (all_told p (k + 1) ts)
 
 pub bounds_add_up : BoundsAddUp
 bounds_add_up sources strips size p tasks =
