@@ -124,6 +124,7 @@ fn told_turn<P: Policy>(
 }
 
 /// Where all instructions that were told are booked, the machine goes on by those that follow each other at once.
+#[inline(never)]
 fn go_ahead<P: Policy>(
     image: &Image,
     input: &RunInput,
@@ -175,6 +176,9 @@ pub fn next_turn<P: Policy>(
     ensures home { result.home ≡ seen_home (seen_of before (run_after image.now input.now at)) (run_after image.now input.now result.end) }
     ensures cost { result.cost ≡ seen_cost (seen_of before (run_after image.now input.now at)) (run_after image.now input.now result.end) }
 {
+    if ahead.booked < ahead.told.len() {
+        return told_turn(image, input, machine, ahead, before, at, limit);
+    }
     go_ahead(image, input, machine, ahead, at, limit);
     if ahead.booked < ahead.told.len() {
         return told_turn(image, input, machine, ahead, before, at, limit);
