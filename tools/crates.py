@@ -124,18 +124,27 @@ def lacks(word, crate, answers, named):
     if f"`./{word}`" not in (read("README.md") or "") and f"./{word} " not in (read("README.md") or ""):
         yield f"./{word} in README.md"
     usage = re.search(rf'"usage: {word} (.*)\\n"', read(f"crates/{answers}/src/top.rt") or "")
-    yield from lacks_of_page(word, bool(usage and " | " in usage.group(1)))
+    commands = commands_of(usage.group(1)) if usage else []
+    yield from lacks_of_page(word, bool(commands))
     if not usage:
         yield f"a usage line in crates/{answers}/src/top.rt"
-    elif " | " in usage.group(1):
-        for path in (f"completions/{word}.bash", f"completions/_{word}", f"completions/{word}.fish", f"docs/{word}.1"):
-            text = read(path)
-            for command in usage.group(1).split(" | ") if text is not None else ():
-                first = next(it for it in command.split() if it != word)
-                if not first.isupper() and not re.search(rf"(?<!\w){first}\b", text):
-                    yield f"{first} in {path}"
-            if text is None:
-                yield path
+    else:
+        yield from lacks_of_help(word, commands, commands + re.findall(r"--([a-z]+)", usage.group(1)))
+
+
+def commands_of(usage):
+    """The commands of a usage line: other words than names of files and options begin its parts."""
+    return [it.split()[0] for it in usage.split(" | ") if re.match(r"[a-z]+ ", it)]
+
+
+def lacks_of_help(word, commands, names):
+    """The completions and the manual that a program with commands has to have, and the names that one of them lacks."""
+    for path in (f"completions/{word}.bash", f"completions/_{word}", f"completions/{word}.fish", f"docs/{word}.1"):
+        text = read(path)
+        if text is not None:
+            yield from (f"{it} in {path}" for it in names if not re.search(rf"\b{it}\b", text))
+        elif commands:
+            yield path
 
 
 def programs():
