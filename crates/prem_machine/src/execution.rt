@@ -48,7 +48,7 @@ pub(crate) fn has_room<const TOLD: bool>(told: &Vec<Execution>) -> bool
     !TOLD || told.len() < told.capacity()
 }
 
-/// ToldBehind of an instruction, where they are told.
+/// Tells of an instruction, where they are told.
 #[inline(always)]
 pub(crate) fn tell<const TOLD: bool>(told: &mut Vec<Execution>, execution: Execution)
     requires { TOLD ≡ true → vec_len told.old < vec_capacity told.old }

@@ -236,7 +236,7 @@ impl<P: Policy> Parts<P> {
         }
     }
 
-    /// ToldBehind of the instruction that was executed since, if one was, where they are told.
+    /// Tells of the instruction that was executed since, if one was, where they are told.
     #[inline(always)]
     fn tell<const TOLD: bool>(&self, before: ExecutionView, task: TaskId, told: &mut Vec<Execution>)
         requires task { task < length self.now.work.cores.items }
