@@ -1,7 +1,6 @@
 // The rules that a call can break.
 ghost use Rattle.std.specs.Prelude.{◌≡◌, map, slice_get, IfOk, OnOk};
 ghost use Rattle.std.specs.Option.{option_map};
-ghost use Rattle.prem_list.specs.Sequence.{items_of};
 ghost use Rattle.prem_word.specs.Ranges.{from_to, encloses};
 ghost use Rattle.prem_syntax.specs.SyntaxOf.{parameter_of};
 ghost use Rattle.prem_syntax.specs.Source.{unlimited};

@@ -1,14 +1,12 @@
 // The walk over a program.
-ghost use Rattle.std.specs.Prelude.{◌≡◌, ℕ, ◌<◌, None, [], map, length, IfOk, OnOk};
+ghost use Rattle.std.specs.Prelude.{◌≡◌, ◌<◌, None, IfOk, OnOk};
 ghost use Rattle.std.specs.List.{flat_map};
 ghost use Rattle.prem_list.specs.Sequence.{items_of};
-ghost use Rattle.prem_syntax.specs.SyntaxOf.{function_of};
 ghost use Rattle.prem_syntax.specs.Source.{unlimited};
 ghost use Rattle.prem_tree.specs.Resolve.ResolvedOf.{resolved_of};
-ghost use Rattle.prem_ranges.specs.After.{known_parameter, bounds_in};
+ghost use Rattle.prem_ranges.specs.After.{bounds_in};
 ghost use Rattle.prem_ranges.specs.RangeRules.{first_of};
 ghost use Rattle.prem_ranges.specs.RangeBreaches.{range_breaches};
-ghost use Rattle.prem_ranges.specs.Sound.{Ranged};
 ghost use Rattle.prem_analysis.specs.Ranging.View.{found_of};
 ghost use Rattle.prem_analysis.specs.Ranging.SiteOf.{AreWatched};
 ghost use Rattle.prem_analysis.specs.Seen.{seen_of};

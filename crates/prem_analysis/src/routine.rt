@@ -1,7 +1,6 @@
 // The walk over a function.
 ghost use Rattle.std.specs.Prelude.{◌≡◌, ◌++◌, [], ◌∷◌, map, IfOk, OnOk};
 ghost use Rattle.std.specs.Option.{option_map};
-ghost use Rattle.prem_list.specs.Sequence.{items_of};
 ghost use Rattle.prem_word.specs.Ranges.{IsRange};
 ghost use Rattle.prem_syntax.specs.SyntaxOf.{parameter_of, local_of, function_of};
 ghost use Rattle.prem_syntax.specs.Resolve.{promoted};

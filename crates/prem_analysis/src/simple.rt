@@ -1,6 +1,5 @@
 // Steps without steps in them.
 ghost use Rattle.std.specs.Prelude.{◌≡◌, ◌++◌, map, slice_get, OnOk};
-ghost use Rattle.prem_list.specs.Sequence.{items_of};
 ghost use Rattle.prem_tree.specs.Resolve.ResolvedOf.{term_of};
 ghost use Rattle.prem_ranges.specs.Environment.{at_local, assigned};
 ghost use Rattle.prem_ranges.specs.RangeOf.{range_of};

@@ -1,6 +1,5 @@
 // A set is read and annotated, and a task's text told.
 ghost use Rattle.std.specs.Prelude.{◌≡◌, ◌≤◌, IfOk, IfSome, IsErrOf, IsNone, None, Ok, Some, map};
-ghost use Rattle.prem_list.specs.Sequence.{items_of};
 ghost use Rattle.prem_io.specs.Counts.{Rose};
 ghost use Rattle.prem_tasks.specs.SetOf.{set_of, task_of};
 ghost use Rattle.prem_answer.specs.Stages.{Comes, IsGiven, reply_of};

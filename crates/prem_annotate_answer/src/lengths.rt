@@ -1,7 +1,7 @@
 // The lengths that bounds ask for.
 ghost use Rattle.std.specs.Prelude.{◌≡◌, IfOk, map};
 ghost use Rattle.prem_place.specs.Verdict.Told.{bounds_of, numbered};
-ghost use Rattle.prem_annotate.specs.Notes.{notes_of, lengthened};
+ghost use Rattle.prem_annotate.specs.Notes.{lengthened};
 ghost use Rattle.prem_annotate_answer.specs.Written.{facts_told, length_for, length_in, length_told};
 ghost use Rattle.prem_annotate_answer.specs.Steps.{all_lengthened, lengths_from, notes_in};
 

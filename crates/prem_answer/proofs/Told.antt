@@ -6,7 +6,7 @@ use Rattle.prem_answer.specs.declared.status.Status.TheVariants.{Done, Refused, 
 use Rattle.prem_answer.specs.declared.answer.Answer.{Answer}
 use Rattle.prem_answer.specs.declared.answer.Halt.{Halt}
 use Rattle.prem_answer.specs.Stages.{Reply, Reads, Stage, AreReads, Comes, IsGiven, IsFine, is_settled, replied, reply_of}
-use Rattle.prem_answer.specs.Tool.{Answered, WordsKeep, Completes, Ends, IsAnswer, IsComplete, IsSettled, IsTool, ToolMeaning, Words, asked_stages, usage_reply, words_stages}
+use Rattle.prem_answer.specs.Tool.{Answered, WordsKeep, Completes, Ends, IsComplete, IsSettled, IsTool, ToolMeaning, Words, asked_stages, usage_reply, words_stages}
 use Rattle.prem_answer.proofs.Reading.{given_at_once, some_reads}
 
 -- ---- by what the words ask for

@@ -1,6 +1,5 @@
 // The first breach in a program.
 ghost use Rattle.std.specs.Prelude.{◌≡◌, ◌≤◌, ◌<◌, ◌+◌, ◌^◌, [], ◌∷◌, map, IfOk, OnOk};
-ghost use Rattle.prem_list.specs.Sequence.{items_of};
 ghost use Rattle.prem_syntax.specs.Name.{name_bytes};
 ghost use Rattle.prem_syntax.specs.Syntax.{ProgramText};
 ghost use Rattle.prem_syntax.specs.SyntaxOf.{global_of, function_of, item_of, program_of};

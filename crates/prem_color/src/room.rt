@@ -1,7 +1,7 @@
 // How many lines of a marked function go into each set of the cache.
-ghost use Rattle.std.specs.Prelude.{◌≡◌, ◌≤◌, ◌<◌, ◌^◌, ◌-◌, option_map, length, replicate};
+ghost use Rattle.std.specs.Prelude.{◌≡◌, ◌≤◌, ◌<◌, ◌-◌, option_map};
 ghost use Rattle.prem_layout.specs.Footprint.{last_line_end, line_end, numbers_from};
-ghost use Rattle.prem_color.specs.Rooms.{no_lines, room_behind, with_line, with_lines, with_ranges, lines_behind};
+ghost use Rattle.prem_color.specs.Rooms.{no_lines, with_lines, with_ranges};
 ghost use Rattle.prem_color.specs.RoomOf.{room_of};
 
 use prem_foot::{line_end, next_run};

@@ -3,7 +3,6 @@ use Rattle.std.specs.List.{AllByRecursion}
 use Rattle.std.proofs.Common.{◌≡◌, ℕ, List, [], ◌∷◌, length, map, refl, ap, sym, ◌∙◌, subst, arith, Vec, Global}
 use Rattle.std.proofs.lemmas.List.Elements.{recursion_from_All}
 use Rattle.std.proofs.lemmas.List.{length-map}
-use Rattle.prem_list.specs.Sequence.{items_of}
 use Rattle.prem_plant.specs.declared.plant.Plant.{Plant}
 use Rattle.prem_plant.specs.declared.plant.Target.{Target}
 use Rattle.prem_plant.specs.declared.plant.Device.{Device}
@@ -11,33 +10,24 @@ use Rattle.prem_plant.specs.declared.layout.PartSize.{PartSize}
 use Rattle.prem_plant.specs.Label.{IsName, AreDistinct}
 use Rattle.prem_plant.specs.Places.{Extent, ArePlaces}
 use Rattle.prem_plant.specs.Ranges.{Between, IsPlant}
-use Rattle.prem_image.specs.Text.{image_text}
 use Rattle.prem_syntax.specs.Syntax.{ProgramText}
-use Rattle.prem_syntax.specs.Name.{name_bytes}
 use Rattle.prem_ranges.specs.RangesKept.{bounded}
-use Rattle.prem_layout.specs.Bounds.{JobBound, limit_of}
-use Rattle.prem_layout.specs.Image.{image_of}
-use Rattle.prem_layout.specs.Placed.{Coded, Placed, parts_of, placed_from}
+use Rattle.prem_layout.specs.Placed.{Coded, parts_of, placed_from}
 use Rattle.prem_place.specs.Content.Blocks.{Words, block_of}
 use Rattle.prem_place.specs.declared.content.content.Block.{Block}
-use Rattle.prem_place.specs.Placed.PlacedOf.{coded_of, placed_of}
+use Rattle.prem_place.specs.Placed.PlacedOf.{coded_of}
 use Rattle.prem_place.specs.declared.placed.PlacedTask.{PlacedTask}
 use Rattle.prem_place.specs.Placing.Standing.{stands_in}
 use Rattle.prem_place.specs.Words.Far.{words_in}
 use Rattle.prem_place.specs.BuildImage.Built as built
 use Rattle.prem_place.specs.BuildImage.Built.{HasRanges, HaveBlocks, IsBuilt}
 use Rattle.prem_place.specs.Totals.Limits.{HasJobs}
-use Rattle.prem_place.specs.Verdict.Told.{numbered}
 use Rattle.prem_tasks.specs.Broken.{TaskText, TaskSet, coded_one, programs_of}
 use Rattle.prem_tasks.specs.Broken as tasks
 use Rattle.prem_tasks.specs.Lawful as lawful
 use Rattle.prem_tasks.specs.Lawful.{IsTaskText, AreDevices, AreTasks}
 use Rattle.prem_tasks.specs.SetOf.{task_of}
 use Rattle.prem_tasks.specs.declared.set.TaskText.{TaskText as TaskTree}
-use Rattle.prem_tasks.specs.Compiled.{coded_in, parts_in, part_name, facts_from, job_bounds}
-use Rattle.prem_tasks.specs.At.{placed_by, compiled_at}
-use Rattle.prem_compile.specs.CompiledOf.{compiled_of}
-use Rattle.prem_compile.specs.declared.compiled.Compiled.{Compiled}
 use Rattle.prem_compile.specs.Joined.{HasPlaces}
 
 first_is : {A : Type 0} (x y : A) (xs ys : List A) → x ∷ xs ≡ y ∷ ys → x ≡ y
@@ -159,26 +149,3 @@ tasks_have_jobs set ts parts layout xs stated same h =
     ∙ ap (λ (texts : List TaskText). tasks.coded_of set.plant.target texts (programs_of set.tasks)) (sym same) in
     let long : length (programs_of set.tasks) ≡ length ts = h.as_many ∙ ap (λ (texts : List TaskText). length texts) (sym same) ∙ length-map ts task_of in
     have_jobs xs (each_in_range set.plant.target xs ts (programs_of set.tasks) coded long h.standing (recursion_from_All IsTaskText ts stated.each))
-
--- ---- what is told of all parts together
-
-pub compiled_is : (set : TaskSet) (parts : List PartSize) (layout : List Extent) (xs : List PlacedTask) (c : Compiled) → HasPlaces set parts layout xs →
-    image_text c.image ≡ image_of set.plant set.devices layout (map coded_of xs) → c.layout ≡ layout → items_of c.parts ≡ parts →
-    map name_bytes (items_of c.names) ≡ map (part_name set.devices (coded_in set)) (parts_in set) → map numbered (items_of c.intervals) ≡ facts_from set.plant 0 (map placed_of xs) →
-    items_of c.jobs ≡ map (λ (j : JobBound). j.bound) (job_bounds set.plant (map placed_of xs)) → c.limit ≡ limit_of (job_bounds set.plant (map placed_of xs)) → compiled_of c ≡ compiled_at set layout
-compiled_is set parts layout xs c h image at all names intervals jobs limit =
-    let image_is : image_text c.image ≡ image_of set.plant set.devices layout (coded_in set) = image ∙ ap (λ (cs : List Coded). image_of set.plant set.devices layout cs) h.coded in
-    let parts_are : items_of c.parts ≡ parts_in set = all ∙ h.parts_are in
-    let intervals_are : map numbered (items_of c.intervals) ≡ facts_from set.plant 0 (placed_by set layout) = intervals ∙ ap (λ (ps : List Placed). facts_from set.plant 0 ps) h.placed in
-    let jobs_are : items_of c.jobs ≡ map (λ (j : JobBound). j.bound) (job_bounds set.plant (placed_by set layout)) =
-    jobs ∙ ap (λ (ps : List Placed). map (λ (j : JobBound). j.bound) (job_bounds set.plant ps)) h.placed in
-    let limit_is : c.limit ≡ limit_of (job_bounds set.plant (placed_by set layout)) = limit ∙ ap (λ (ps : List Placed). limit_of (job_bounds set.plant ps)) h.placed in
-    λ i. record {
-      image = image_is i;
-      layout = at i;
-      parts = parts_are i;
-      names = names i;
-      intervals = intervals_are i;
-      jobs = jobs_are i;
-      limit = limit_is i;
-    }

@@ -1,5 +1,5 @@
 // The footprint of a marked function.
-ghost use Rattle.std.specs.Prelude.{◌≡◌, ◌++◌, ◌<◌, ◌≤◌, ◌^◌, map, length, IfOk, IfErr, OnOk};
+ghost use Rattle.std.specs.Prelude.{◌≡◌, ◌++◌, ◌<◌, map, length, IfOk, IfErr, OnOk};
 ghost use Rattle.std.specs.List.{AllByRecursion};
 ghost use Rattle.prem_plant.specs.Ranges.{IsPlant};
 ghost use Rattle.prem_layout.specs.Footprint.{code_range, region_range, ranges_of, footprint_of, conflict_of, most_of};

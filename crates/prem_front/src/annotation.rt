@@ -1,6 +1,5 @@
 // The mark of a predictable function.
 ghost use Rattle.std.specs.Prelude.{◌≡◌, IfOk, map};
-ghost use Rattle.prem_list.specs.Sequence.{items_of};
 ghost use Rattle.prem_syntax.specs.SyntaxOf.{mark_of, region_of};
 ghost use Rattle.prem_text.specs.Lexing.Token.Lexeme.{seen_of};
 ghost use Rattle.prem_text.specs.Grammar.Item.{item_begins, behind_mark, with_region, row_ends, mark_row, region_row};

@@ -7,7 +7,7 @@ ghost use Rattle.prem_syntax.specs.SyntaxOf.{mark_of, global_of, initial_of, par
 ghost use Rattle.prem_text.specs.Lexing.Token.Lexeme.{lexeme_of, seen_of};
 ghost use Rattle.prem_text.specs.Grammar.Item.{begin_row, scalar, with_length, with_initial, global_ends, new_function, global_or, item_goes_on, constant_of as number_of, minus_once, constant, constant_ends, range_high, only_value, with_parameter, with_range, next_value, initial_begins};
 ghost use Rattle.prem_reader.specs.Statement.SlotOf.{slot_of};
-ghost use Rattle.prem_front.specs.StageOf.{row_of, constant_of, stage_of, step_of};
+ghost use Rattle.prem_front.specs.StageOf.{row_of, constant_of, step_of};
 
 use crate::stage::{Constant, ItemRow, ItemStep, Stage};
 use crate::typing::NOTHING;

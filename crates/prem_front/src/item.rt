@@ -1,7 +1,7 @@
 // Reading the items of a program, one token after the other.
 ghost use Rattle.std.specs.Prelude.{◌≡◌, IfOk, map};
 ghost use Rattle.prem_list.specs.Sequence.{items_of};
-ghost use Rattle.prem_text.specs.Lexing.Token.Lexeme.{lexeme_of, seen_of};
+ghost use Rattle.prem_text.specs.Lexing.Token.Lexeme.{seen_of};
 ghost use Rattle.prem_text.specs.Grammar.Item.{in_row, row_ends, row_goes_on, step, is_too_deep};
 ghost use Rattle.prem_reader.specs.Statement.SlotOf.{slot_of};
 ghost use Rattle.prem_front.specs.StageOf.{row_of, stage_of, step_of};

@@ -1,6 +1,6 @@
 // What one instruction does, but for the bytes of memory.
 
-ghost use Rattle.std.specs.Prelude.{◌≡◌, ℕ, ◌≤◌, ◌<◌, ◌+◌, ◌*◌, ◌^◌, slice_index, IfNone, if◌then◌else◌};
+ghost use Rattle.std.specs.Prelude.{◌≡◌, ℕ, ◌≤◌, ◌<◌, ◌+◌, ◌*◌, slice_index, IfNone, if◌then◌else◌};
 ghost use Rattle.prem_word.specs.Bytes.{number_at};
 ghost use Rattle.prem_isa.specs.Decode.{Fits};
 ghost use Rattle.prem_isa.specs.Alu.{load_size, store_size};

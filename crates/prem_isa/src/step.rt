@@ -9,9 +9,8 @@ ghost use Rattle.prem_isa.specs.declared.effect.Phase.{Phase};
 ghost use Rattle.prem_isa.specs.Fields.{FieldsFit, fields_of, signed, imm_b, imm_i, imm_j, imm_s, imm_u};
 ghost use Rattle.prem_isa.specs.Codes.{branch_op, load_op, store_op, low_op, muldiv_op};
 ghost use Rattle.prem_isa.specs.Decode.{op_imm, operation, system, custom, instr_of, decode_of};
-ghost use Rattle.prem_isa.specs.Alu.{word_of_int, load_size, store_size};
+ghost use Rattle.prem_isa.specs.Alu.{word_of_int};
 ghost use Rattle.prem_isa.specs.Act.{sets, jumps, in_phase};
-ghost use Rattle.prem_isa.specs.Bounds.{IsPlaced};
 ghost use Rattle.prem_isa.specs.Step.{act_of, told_by, UpshotFits, registers_moved, pc_moved};
 
 use crate::effect::{Cause, DataLoad, Phase, Stored};

@@ -47,9 +47,6 @@ none_before t from (r ∷ rs) le all =
     let y : before t rs ≡ 0 = none_before t from rs le (λ k d lt. all (suc k) d (omega (arith, lt))) in
     omega (arith, z, y)
 
-later_all : (a b : ℕ) (rs : List Request) → a ≤ b → All (λ (q : Request). b ≤ q.cycle) rs → All (λ (q : Request). a ≤ q.cycle) rs
-later_all a b rs le all k d lt = let x = all k d lt in omega (arith, le, x)
-
 -- those that keep their distance
 pub few_come : (every a n : ℕ) (rs : List Request) → 1 ≤ every → AreDistant every rs → before (a + n) rs ≤ before a rs + requests_in every n
 few_come every a n [] some h = omega arith

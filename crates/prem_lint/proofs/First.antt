@@ -8,7 +8,7 @@ use Rattle.prem_line.specs.declared.failing.Failing.TheVariants.{Refused as Stop
 use Rattle.prem_plant.specs.declared.plant.Plant.{Plant}
 use Rattle.prem_plant.specs.Places.{Extent}
 use Rattle.prem_syntax.specs.Syntax.{Text, ProgramText}
-use Rattle.prem_syntax.specs.Resolved.{Resolved, Routine}
+use Rattle.prem_syntax.specs.Resolved.{Routine}
 use Rattle.prem_syntax.specs.Statements.{is_marked}
 use Rattle.prem_syntax.specs.Rules.{Breach}
 use Rattle.prem_syntax.specs.ProgramRules.{first_breach}
@@ -20,7 +20,7 @@ use Rattle.prem_ranges.specs.RangesKept.{first_range_breach, resolved}
 use Rattle.prem_layout.specs.Bounds.{job_bound_of}
 use Rattle.prem_layout.specs.Facts.{IntervalFact, interval_facts}
 use Rattle.prem_layout.specs.Footprint.{Conflict, conflict_of, footprint_of}
-use Rattle.prem_layout.specs.Placed.{Coded, Placed, blocks_of, name_at}
+use Rattle.prem_layout.specs.Placed.{Coded, Placed, blocks_of}
 use Rattle.prem_layout.specs.Plans.{Plan}
 use Rattle.prem_layout.specs.Rules as rules
 use Rattle.prem_layout.specs.Rules.{LateRule, Refusal, or_else, refused_by, first_among, over_tasks, of_excess, code_rules, memory_rules, Jump, of_jump, far_jump, reach_rules, of_conflict, conflict_in, first_conflict, conflict_rules, greatest_bound, if_large, marked_bound, facts_behind, large_bound, bound_rules}

@@ -1,7 +1,7 @@
 -- Places that are found by a program are those in its text.
 use Rattle.std.proofs.Common.{◌≡◌, ℕ, zero, suc, ◌+◌, List, [], ◌∷◌, Option, None, Some, Result, Ok, Err, map, refl, ap, sym, ◌∙◌, subst}
 use Rattle.std.specs.Prelude.{slice_get}
-use Rattle.prem_syntax.specs.Syntax.{Text, ProgramText}
+use Rattle.prem_syntax.specs.Syntax.{ProgramText}
 use Rattle.prem_text.specs.declared.lexing.token.fail.FrontFail.{FrontFail}
 use Rattle.prem_syntax.specs.ProgramRules.{first_breach}
 use Rattle.prem_text.specs.Lexing.Tokens.{lex, tokens_of}

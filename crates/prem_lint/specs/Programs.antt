@@ -1,5 +1,5 @@
 -- The programs of a set's texts, by which places are found.
-use Rattle.std.specs.Prelude.{◌≡◌, ⊤, ℕ, List, [], map, slice_get, Bool, Option, None, Some, Ok}
+use Rattle.std.specs.Prelude.{◌≡◌, ⊤, ℕ, List, [], slice_get, Option, None, Some, Ok}
 use Rattle.prem_syntax.specs.Syntax.{Text, ProgramText}
 use Rattle.prem_text.specs.Texts.{reads}
 use Rattle.prem_tasks.specs.Told.{Told, of_text, of_program, of_ranges, of_code}

@@ -1,6 +1,5 @@
 // A broken rule at its place.
 ghost use Rattle.std.specs.Prelude.{◌≡◌, ◌++◌, OnOk};
-ghost use Rattle.prem_tasks.specs.Told.{told_of};
 ghost use Rattle.prem_lint.specs.Diagnostics.{diagnostic_of, diagnostic_text, error_text, note_text};
 
 use crate::advice::put_advice;

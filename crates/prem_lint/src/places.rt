@@ -1,7 +1,6 @@
 // Where in a text a rule is broken.
-ghost use Rattle.std.specs.Prelude.{◌≡◌, IfOk, map};
+ghost use Rattle.std.specs.Prelude.{◌≡◌, IfOk};
 ghost use Rattle.std.specs.Option.{option_map};
-ghost use Rattle.prem_syntax.specs.Name.{name_bytes};
 ghost use Rattle.prem_syntax.specs.SyntaxOf.{item_of, program_of};
 ghost use Rattle.prem_syntax.specs.Literals.{ProgramHasWords};
 ghost use Rattle.prem_syntax.specs.ProgramRules.{IsWellFormed};

@@ -1,5 +1,5 @@
 // One line of a mail file.
-ghost use Rattle.std.specs.Prelude.{◌≡◌, option_map, length};
+ghost use Rattle.std.specs.Prelude.{◌≡◌, option_map};
 ghost use Rattle.prem_line.specs.Lines.{words_of};
 ghost use Rattle.prem_line.specs.Failing.{Gives};
 ghost use Rattle.prem_mail.specs.MailFile.{feed_of, feed_words, fed_words, is_fed, last_word, line_read, words_read};

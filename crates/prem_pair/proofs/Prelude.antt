@@ -100,7 +100,7 @@ pub use Rattle.prem_sound.specs.Resident.Faultless.{IsPolicy}
 pub use Rattle.prem_sound.specs.Script.Script.{Script}
 pub use Rattle.prem_sound.specs.Script.Scripts.{AreKept, AreScripts, Promise, last_release}
 pub use Rattle.prem_sound.specs.Serve.Requests.{AreAmong, GetsLastPuts, PutWords, asked_before, asked_of, carried_of, found_room, held_of, transferred_of}
-pub use Rattle.prem_sound.specs.Sound.{HasScripts, IsRun}
+pub use Rattle.prem_sound.specs.Sound.{IsRun}
 pub use Rattle.std.proofs.Common.{ap, sym, ◌∙◌}
 pub use Rattle.std.proofs.lemmas.Bool.{cases_Bool, cases_eq, cases_lt, cond_both, eq-eqb, le-leb, le-ltb, leb-false, lt-leb, lt-ltb, ne_eqb}
 pub use Rattle.std.proofs.lemmas.Bool.Decides.{nat_tests}

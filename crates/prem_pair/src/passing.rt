@@ -109,7 +109,7 @@ pub(crate) fn pass_with<P: Policy>(
 }
 
 impl<P: Policy, Q: Policy> Both<P, Q> {
-    ghost use Rattle.std.specs.Prelude.{◌≡◌, ◌+◌, ◌-◌, ◌*◌, ◌<◌, ◌≤◌, ◌^◌, [], All, if◌then◌else◌, length};
+    ghost use Rattle.std.specs.Prelude.{◌≡◌, ◌+◌, ◌-◌, ◌*◌, ◌<◌, ◌≤◌, ◌^◌, [], if◌then◌else◌, length};
     ghost use Rattle.std.specs.List.Sorted.{IsNonDecreasingBy};
     ghost use Rattle.prem_gate.specs.Stretch.{AreQuiet};
     ghost use Rattle.prem_cycle.specs.Runs.Dull.Rest.{NoneArrive};

@@ -1,5 +1,5 @@
 // A core's part of a cycle.
-ghost use Rattle.std.specs.Prelude.{◌≡◌, ◌+◌, ◌*◌, ◌<◌, ◌≤◌, ◌^◌, ℕ, All, length, false};
+ghost use Rattle.std.specs.Prelude.{◌≡◌, ◌+◌, ◌*◌, ◌<◌, ◌≤◌, ◌^◌, ℕ, length, false};
 ghost use Rattle.prem_list.specs.Sequence.{items_of, room_of};
 ghost use Rattle.prem_cycle.specs.State.{Setup, Work};
 ghost use Rattle.prem_cycle.specs.Core.{move_of};

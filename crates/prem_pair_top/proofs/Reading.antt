@@ -8,7 +8,7 @@ use Rattle.prem_tasks.specs.Broken.{TaskSet, broken}
 use Rattle.prem_sets_sound.specs.ImagePremises.Accepted.{setup_in}
 use Rattle.prem_set.specs.Run.Run.{Gathered, LineRefusal, run_of as lines_of_run}
 use Rattle.prem_set.specs.declared.fault.SetFail.{SetFail}
-use Rattle.prem_set.specs.SetFile.{SetData, set_of as set_of_text, task_names as entry_names}
+use Rattle.prem_set.specs.SetFile.{SetData, set_of as set_of_text}
 use Rattle.prem_set.proofs.Lawful.{set_is_lawful}
 use Rattle.prem_set.proofs.RunLemmas.Lawful.{run_is_lawful}
 use Rattle.prem_answer.specs.declared.answer.Telling.TheVariants.{Whole, Brief}

@@ -1,5 +1,5 @@
 // The sets of both cores and their run files are read, compiled and run.
-ghost use Rattle.std.specs.Prelude.{◌≡◌, ◌≤◌, ◌^◌, [], IfOk, IsErrOf, Ok};
+ghost use Rattle.std.specs.Prelude.{◌≡◌, ◌≤◌, [], IfOk, IsErrOf, Ok};
 ghost use Rattle.prem_list.specs.Sequence.{items_of};
 ghost use Rattle.prem_io.specs.Counts.{Rose};
 ghost use Rattle.prem_cycle.specs.Inputs.{FitsRun, setup_of, words_of};

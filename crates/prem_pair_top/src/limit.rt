@@ -1,7 +1,5 @@
 // The cycle by which both cores have finished.
 ghost use Rattle.std.specs.Prelude.{◌≡◌, ◌≤◌, ◌+◌, ◌-◌, ◌*◌, ◌^◌, length, max};
-ghost use Rattle.prem_list.specs.Sequence.{items_of};
-ghost use Rattle.prem_image.specs.Text.{image_text};
 ghost use Rattle.prem_sound.specs.Script.Scripts.{last_release};
 ghost use Rattle.prem_pair.specs.Laws.PairSound.{all_costs, cost_of_request, last_request};
 ghost use Rattle.prem_compile.specs.CompiledOf.{compiled_of};

@@ -1,7 +1,6 @@
 // The text that tells of a run of two cores.
 ghost use Rattle.std.specs.Prelude.{◌≡◌, ◌+◌, ◌++◌, [], OnOk, IfOk, if◌then◌else◌, string_bytes};
 ghost use Rattle.std.specs.List.{flat_map};
-ghost use Rattle.prem_list.specs.Sequence.{items_of};
 ghost use Rattle.prem_cycle.specs.FactsOf.{report_in};
 ghost use Rattle.prem_report.specs.Report.{cache_line, counts_text, interval_line, phase_line, transfer_line};
 ghost use Rattle.prem_pair_top.specs.Report.{both_counts, core_line, core_text, pair_stop_line, pair_text, stop_in, stop_tasks};

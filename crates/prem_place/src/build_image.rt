@@ -1,8 +1,6 @@
 //! The image of a set of placed tasks.
 ghost use Rattle.std.specs.Prelude.{◌≡◌, ◌+◌, ◌≤◌, length, map, take, drop, IfOk};
 ghost use Rattle.prem_list.specs.Sequence.{items_of};
-ghost use Rattle.prem_image.specs.Records.{IsImage};
-ghost use Rattle.prem_image.specs.Text.{ImageText};
 ghost use Rattle.prem_image.specs.Text.{image_text};
 ghost use Rattle.prem_layout.specs.Image.{greatest_end, task_record, device_records, image_of};
 ghost use Rattle.prem_place.specs.Placed.PlacedOf.{coded_of, placed_of};

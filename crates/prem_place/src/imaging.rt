@@ -1,11 +1,10 @@
 //! What memory holds at the start of a run of placed tasks.
-ghost use Rattle.std.specs.Prelude.{◌≡◌, ◌≤◌, IfOk, OnOk, length, map, replicate};
-ghost use Rattle.std.specs.List.{AllByRecursion};
+ghost use Rattle.std.specs.Prelude.{◌≡◌, IfOk, OnOk, length, map, replicate};
 ghost use Rattle.prem_list.specs.Sequence.{items_of};
 ghost use Rattle.prem_layout.specs.Image.{with_blocks, with_globals, with_tasks};
 ghost use Rattle.prem_layout.specs.Placed.{blocks_of};
 ghost use Rattle.prem_place.specs.Placed.PlacedOf.{placed_of};
-ghost use Rattle.prem_place.specs.Imaging.Standing.{HasBlocks, Fits, AllFit};
+ghost use Rattle.prem_place.specs.Imaging.Standing.{Fits, AllFit};
 
 use crate::content::{Block, put_blocks, put_globals, zeros};
 use crate::placed::PlacedTask;

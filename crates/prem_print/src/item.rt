@@ -3,7 +3,6 @@
 
 ghost use Rattle.std.specs.Prelude.{◌≡◌, Some, OnOk, map};
 ghost use Rattle.std.specs.Option.{option_map};
-ghost use Rattle.prem_list.specs.Sequence.{items_of};
 ghost use Rattle.prem_syntax.specs.Name.{name_bytes};
 ghost use Rattle.prem_syntax.specs.SyntaxOf.{expression_of, parameter_of, local_of, region_of, mark_of, initial_of, global_of, function_of, item_of};
 ghost use Rattle.prem_text.specs.Canonical.Canonical.{constants_lexemes, declaration_lexemes, function_lexemes, global_lexemes, initial_lexemes, item_lexemes, length_lexemes, local_lexemes, locals_lexemes, mark_lexemes, more_constants, more_parameters, parameter_lexemes, parameters_lexemes, program_lexemes, range_lexemes, region_lexemes, regions_lexemes, result_lexemes, type_lexemes};

@@ -6,7 +6,7 @@ use Rattle.prem_profile.specs.declared.cost.Cost.{Cost}
 use Rattle.prem_profile.specs.declared.calls.WideCost.{WideCost}
 use Rattle.prem_profile.specs.Spent.{no_cost, plus}
 use Rattle.prem_profile.specs.Account.{with_cost}
-use Rattle.prem_profile.specs.Calls.{FitsWide, HasWideRoom, LastCalls, caller_of, calls_of, costs_with, follow, function_at, is_first, narrow, noted, recent_with, settled, with_call, with_calls}
+use Rattle.prem_profile.specs.Calls.{HasWideRoom, LastCalls, caller_of, calls_of, costs_with, follow, function_at, is_first, narrow, noted, recent_with, settled, with_call, with_calls}
 use Rattle.prem_profile.proofs.Turns.{none_plus, plus_assoc, plus_none, same_cost}
 use Rattle.prem_profile.proofs.Called.{IsBelow, and_not, below_same, below_then}
 
@@ -51,15 +51,6 @@ booked_more (x ∷ costs) zero (suc row) c = record { instructions = omega arith
 booked_more (x ∷ costs) (suc r) zero c = record { instructions = omega arith; cycles = omega arith; misses = omega arith; backs = omega arith }
 booked_more (x ∷ costs) (suc r) (suc row) c = booked_more costs r row c
 
-pub room_first : (n left : ℕ) (costs : List Cost) (c : Cost) (row : ℕ) → left ≡ suc n → HasWideRoom left costs c → FitsWide (slice_index_or costs row no_cost) c
-room_first n left costs c row e room =
-    let h : HasWideRoom (suc n) costs c = subst (λ k. HasWideRoom k costs c) e room in
-    let i = (h row).instructions in
-    let w = (h row).cycles in
-    let m = (h row).misses in
-    let x = (h row).backs in
-    record { instructions = omega (arith, i); cycles = omega (arith, w); misses = omega (arith, m); backs = omega (arith, x) }
-
 pub room_next : (n left : ℕ) (costs new : List Cost) (c : Cost) (r : ℕ) → left ≡ suc n → new ≡ with_cost costs r c → HasWideRoom left costs c → HasWideRoom n new c
 room_next n left costs new c r e en room row =
     let h : HasWideRoom (suc n) costs c = subst (λ k. HasWideRoom k costs c) e room in
@@ -84,15 +75,6 @@ calls_next n left functions callers row (suc k) costs new whole c e is some en l
     let here : calls_of left functions callers row ≡ suc k ∷ calls_of n functions callers (suc k) =
     ap (λ m. calls_of m functions callers row) e ∙ ap (follow (calls_of n functions callers)) (sym is) in
     ap (λ xs. with_calls xs (calls_of n functions callers (suc k)) c) en ∙ ap (λ rs. with_calls costs rs c) (sym here) ∙ last
-
-pub calls_end : (n left : ℕ) (functions callers : List ℕ) (row caller : ℕ) (costs whole : List Cost) (c : Cost) → left ≡ suc n → caller ≡ caller_of functions callers row → caller ≡ 0 →
-    with_calls costs (calls_of left functions callers row) c ≡ whole → costs ≡ whole
-calls_end n left functions callers row caller costs whole c e is none last =
-    let here : calls_of left functions callers row ≡ [] = ap (λ m. calls_of m functions callers row) e ∙ ap (follow (calls_of n functions callers)) (sym is ∙ none) in
-    ap (λ rs. with_calls costs rs c) (sym here) ∙ last
-
-pub calls_out : (left : ℕ) (functions callers : List ℕ) (row : ℕ) (costs whole : List Cost) (c : Cost) → left ≡ 0 → with_calls costs (calls_of left functions callers row) c ≡ whole → costs ≡ whole
-calls_out left functions callers row costs whole c e last = ap (λ m. with_calls costs (calls_of m functions callers row) c) (sym e) ∙ last
 
 -- ---- costs that are booked later
 

@@ -1,6 +1,5 @@
 // A profile in callgrind's format, version 1 (the specification is a part of Valgrind's technical documentation).
-ghost use Rattle.std.specs.Prelude.{◌≡◌, ◌+◌, ◌<◌, ◌≤◌, ◌^◌, ◌++◌, List, [], ◌∷◌, codes, decimal, drop, length, map, take, slice_get, slice_index_or, OnOk, IfOk, IfSome, IsNone, Some, None};
-ghost use Rattle.prem_profile.specs.Spent.{no_cost};
+ghost use Rattle.std.specs.Prelude.{◌≡◌, ◌+◌, ◌<◌, ◌^◌, ◌++◌, [], ◌∷◌, codes, decimal, drop, length, map, take, slice_get, slice_index_or, OnOk, IfOk, IfSome, IsNone, Some, None};
 ghost use Rattle.prem_profile.specs.Strips.{first_row, strip_of, strip_words};
 ghost use Rattle.prem_profile.specs.Calls.{narrow};
 ghost use Rattle.prem_profile.specs.Grammar.{cost_text};

@@ -3,7 +3,7 @@ ghost use Rattle.std.specs.Prelude.{◌≡◌, ◌+◌, ◌-◌, ◌<◌, ◌^�
 ghost use Rattle.prem_profile.specs.Strips.{strip_of};
 ghost use Rattle.prem_profile.specs.Spent.{no_cost, plus};
 ghost use Rattle.prem_profile.specs.Account.{Fits, with_cost};
-ghost use Rattle.prem_profile.specs.Calls.{FitsWide, HasWideRoom, LastCalls, caller_of, calls_of, function_at, functions_from, is_first, last_calls, narrow, costs_with, no_calls, noted, recent_with, settled, with_call, with_calls};
+ghost use Rattle.prem_profile.specs.Calls.{FitsWide, HasWideRoom, caller_of, calls_of, function_at, functions_from, is_first, last_calls, narrow, costs_with, no_calls, noted, recent_with, settled, with_call, with_calls};
 
 use crate::cost::{Cost, no_cost, plus};
 use crate::strip::{Strip, no_rows, set_row};

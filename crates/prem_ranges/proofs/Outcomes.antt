@@ -15,10 +15,6 @@ pub ends_same : {A : Type 0} {P : A → Type 0} {W : ℕ → Type 0} {o o' : Out
 ends_same (gives p) = refl
 ends_same (wrong w) = refl
 
-pub ends_fact : {A : Type 0} {P : A → Type 0} {W : ℕ → Type 0} {o o' : Outcome A} → Ends P W o o' → (x : A) → o ≡ Ok x → P x
-ends_fact {P = P} (gives {x = y} p) x e = let same : y ≡ x = cc in subst P same p
-ends_fact (wrong w) x e = cc
-
 pub ends_blame : {A : Type 0} {P : A → Type 0} {W : ℕ → Type 0} {o o' : Outcome A} → Ends P W o o' → (line : ℕ) → o ≡ Err line → W line
 ends_blame (gives p) line e = cc
 ends_blame {W = W} (wrong {line = l} w) line e = let same : l ≡ line = cc in subst W same w

@@ -1,5 +1,5 @@
 // The lines of a report.
-ghost use Rattle.std.specs.Prelude.{◌≡◌, ◌++◌, IfOk, OnOk, codes, string_bytes};
+ghost use Rattle.std.specs.Prelude.{◌≡◌, ◌++◌, IfOk, OnOk, string_bytes};
 ghost use Rattle.prem_cycle.specs.FactsOf.{report_in};
 ghost use Rattle.prem_cycle.specs.Runs.Transfer.Lengths.{device_cost};
 ghost use Rattle.prem_report.specs.Report.{task_name, device_name, output_line, task_line, kind_word, interval_line, direction_word, transfer_line, transfer_time, transfer_word, cycles_line, cache_line, phase_line, device_line, cause_word, trap_place, trap_cause};

@@ -8,7 +8,6 @@ use Rattle.prem_tasks.specs.Broken.{TaskSet, broken}
 use Rattle.prem_tasks.specs.Compiled.{compiled}
 use Rattle.prem_sets_sound.specs.ImagePremises.Accepted.{HasValues, setup_in}
 use Rattle.prem_answer.specs.declared.answer.Telling.TheVariants.{Brief}
-use Rattle.prem_answer.specs.declared.status.Status.TheVariants as status
 use Rattle.prem_answer.specs.Statuses.{plain_status}
 use Rattle.prem_answer.specs.Stages.{Reply, Reads, Stage, replied}
 use Rattle.prem_exec.specs.Sources.Sources.{reading_set_by}

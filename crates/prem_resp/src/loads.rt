@@ -1,6 +1,5 @@
 // What the tasks of a compiled set ask of the core, and their busy periods.
-ghost use Rattle.std.specs.Prelude.{◌≡◌, ◌≤◌, All, IfOk, length, map};
-ghost use Rattle.prem_list.specs.Sequence.{items_of};
+ghost use Rattle.std.specs.Prelude.{◌≡◌, ◌≤◌, All, IfOk, length};
 ghost use Rattle.prem_resp.specs.Busy.Busy.{IsLoad};
 ghost use Rattle.prem_resp.specs.Fits.{found_in};
 ghost use Rattle.prem_resp.specs.Told.{loads_told};

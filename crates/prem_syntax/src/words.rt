@@ -1,7 +1,6 @@
 // Literals of a tree in memory are words. These functions do nothing: they go through a tree to tell it.
 ghost use Rattle.std.specs.Prelude.{◌<◌, ◌^◌, ◌∷◌, map};
 ghost use Rattle.std.specs.Option.{option_map};
-ghost use Rattle.prem_list.specs.Sequence.{items_of};
 ghost use Rattle.prem_syntax.specs.SyntaxOf.{expression_of, statement_of, statements_of, local_of, function_of, item_of, program_of};
 ghost use Rattle.prem_syntax.specs.Syntax.{ProgramText};
 ghost use Rattle.prem_syntax.specs.Literals.{HasWords, HasWordsIf, HaveWords, StatementHasWords, StatementsHaveWords, LocalsHaveWords, ProgramHasWords};

@@ -1,5 +1,5 @@
 //! The canonical spelling of a program's tree: its tokens, with the fewest parentheses, and its text; and the laws that say that it is read back.
-ghost use Rattle.std.specs.Prelude.{◌≡◌, ◌≤◌, ℕ, List, map};
+ghost use Rattle.std.specs.Prelude.{◌≤◌, ℕ, List, map};
 ghost use Rattle.prem_syntax.specs.Syntax.{Expression, ProgramText};
 ghost use Rattle.prem_text.specs.Lexing.Token.Lexeme.{Seen};
 ghost use Rattle.prem_text.specs.Spelling.Spelled.{AreSpellings};

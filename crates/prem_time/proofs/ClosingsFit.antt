@@ -1,7 +1,7 @@
 -- What tasks keep from a device fits the search for its wait, and what the search finds is the wait that is told.
 use Rattle.std.specs.Prelude.{All, drop, slice_index_or}
 use Rattle.std.specs.List.{AllByRecursion}
-use Rattle.std.proofs.Common.{◌≡◌, ℕ, zero, suc, ◌+◌, ◌<◌, ◌≤◌, ◌^◌, refl, ap, ◌∙◌, sym, subst, arith, cond, Bool, true, List, [], ◌∷◌, length, map, Option, None, Some, slice_get}
+use Rattle.std.proofs.Common.{◌≡◌, ℕ, zero, suc, ◌+◌, ◌<◌, ◌≤◌, ◌^◌, refl, ap, ◌∙◌, sym, subst, arith, cond, true, List, [], ◌∷◌, length, map, Option, None, Some, slice_get}
 use Rattle.std.proofs.lemmas.List.Elements.{All-from_recursion, recursion_from_All}
 use Rattle.prem_resp.specs.declared.busy.load.Load.{Load}
 use Rattle.prem_resp.specs.declared.busy.length.Busy.{Busy}
@@ -9,7 +9,6 @@ use Rattle.prem_resp.specs.declared.busy.length.Busy.TheVariants.{Within, Past}
 use Rattle.prem_resp.specs.Busy.Busy.{IsLoad, load_at}
 use Rattle.prem_resp.specs.Busy.Found.{IsFound as IsBusyFound}
 use Rattle.prem_resp.specs.Lines.{all_within}
-use Rattle.prem_resp.specs.Fits.{found_in}
 use Rattle.prem_resp.proofs.Fits.{all_found, found_long}
 use Rattle.prem_list.specs.Sequence.{items_of}
 use Rattle.prem_wcet.specs.Times.{TimesText}

@@ -1,21 +1,18 @@
 -- The waits that are told of a set hold of its runs.
 use Rattle.std.specs.Prelude.{slice_index_or}
-use Rattle.std.proofs.Common.{◌≡◌, ℕ, zero, suc, ◌+◌, ◌<◌, ◌≤◌, refl, ap, ◌∙◌, sym, subst, arith, cond, leb, Bool, true, false, List, [], ◌∷◌, length, map, Option, None, Some, slice_get}
+use Rattle.std.proofs.Common.{◌≡◌, ℕ, zero, suc, ◌<◌, ◌≤◌, refl, ap, ◌∙◌, sym, subst, arith, cond, leb, Bool, true, false, List, [], ◌∷◌, length, Option, None, Some, slice_get}
 use Rattle.std.proofs.lemmas.Bool.{leb-false}
 use Rattle.std.proofs.lemmas.List.{length-map}
-use Rattle.prem_plant.specs.declared.plant.Plant.{Plant}
 use Rattle.prem_plant.specs.declared.plant.Device.{Device}
-use Rattle.prem_lru.specs.Rules.{rule_of}
-use Rattle.prem_layout.specs.Placed.{Placed}
-use Rattle.prem_tasks.specs.Broken.{TaskSet, broken}
-use Rattle.prem_tasks.specs.Compiled.{compiled, placed_in, places_in}
-use Rattle.prem_sets_sound.specs.ImagePremises.Accepted.{HasValues, setup_in}
+use Rattle.prem_tasks.specs.Broken.{TaskSet}
+use Rattle.prem_tasks.specs.Compiled.{placed_in, places_in}
+use Rattle.prem_sets_sound.specs.ImagePremises.Accepted.{setup_in}
 use Rattle.prem_sets_sound.proofs.ImagePremisesLemmas.Whole.{default_places_are_lawful}
 use Rattle.prem_sets_sound.proofs.PlacesSoundLemmas.At.{default_is_at}
 use Rattle.prem_latency.specs.Wcet.Sets.{closed_at}
 use Rattle.prem_resp.specs.declared.busy.load.Load.{Load}
 use Rattle.prem_resp.specs.declared.busy.length.Busy.{Busy}
-use Rattle.prem_resp.specs.declared.busy.length.Busy.TheVariants.{Within, Past}
+use Rattle.prem_resp.specs.declared.busy.length.Busy.TheVariants.{Within}
 use Rattle.prem_resp.specs.Busy.Busy.{load_at}
 use Rattle.prem_resp.specs.Busy.Found.{IsFound}
 use Rattle.prem_resp.specs.Lines.{all_within}
@@ -25,11 +22,9 @@ use Rattle.prem_latency.specs.declared.wait.Asking.{Asking}
 use Rattle.prem_latency.specs.declared.wait.Closing.{Closing}
 use Rattle.prem_latency.specs.Wait.{IsFound as IsWaitFound, requests_in, top, wait_of}
 use Rattle.prem_latency.specs.Timeline.{closing_at}
-use Rattle.prem_latency.specs.Images.{ServesDevice}
 use Rattle.prem_latency.specs.Joined.{TellsTask, TellsWaits}
 use Rattle.prem_latency.proofs.Found.{wait_found}
 use Rattle.prem_latency.proofs.SetWaits.{sets_serve_devices}
-use Rattle.prem_time.specs.declared.devices.Named.{Named}
 use Rattle.prem_time.specs.Words.{Distance, most_cycles}
 use Rattle.prem_time.specs.Times.{load_of, loads_in}
 use Rattle.prem_time.specs.Devices.{askings_in, closed_to, closing_of, closings_of, device_at, distances_of, is_held, wait_by, wait_in}

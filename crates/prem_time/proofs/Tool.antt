@@ -1,5 +1,5 @@
 -- Each answer may be given and keeps what it promises, and the times of a set are told where its files are there and in form, and it breaks no rule.
-use Rattle.std.proofs.Common.{◌≡◌, ℕ, List, Some, Ok, refl, ap, ◌∙◌, sym}
+use Rattle.std.proofs.Common.{◌≡◌, Some, Ok, refl, ap, ◌∙◌, sym}
 use Rattle.prem_io.specs.Files.{Files}
 use Rattle.prem_answer.specs.declared.answer.Telling.TheVariants.{Whole}
 use Rattle.prem_answer.specs.Stages.{Reply, Reads, AreReads, replied}

@@ -1,10 +1,9 @@
 -- The set of two tasks, computed: where its device asks each 5000 cycles, each of its requests is transferred within 1198 cycles.
 use Rattle.std.specs.Prelude.{All, codes}
-use Rattle.std.proofs.Common.{◌≡◌, refl, ap, ◌∙◌, ℕ, zero, suc, ◌<◌, arith, List, [], ◌∷◌, length, Some, Option}
+use Rattle.std.proofs.Common.{◌≡◌, refl, ap, ◌∙◌, ℕ, zero, suc, arith, List, [], ◌∷◌, length, Some}
 use Rattle.prem_resp.specs.declared.busy.length.Busy.{Busy}
 use Rattle.prem_resp.specs.declared.busy.length.Busy.TheVariants.{Within}
 use Rattle.prem_resp.specs.declared.busy.load.Load.{Load}
-use Rattle.prem_resp.specs.Fits.{found_in}
 use Rattle.prem_sets_sound.proofs.ImagePremisesLemmas.Sample.{sample, sample_values, sample_breaks_nothing}
 use Rattle.prem_latency.proofs.WcetLemmas.Sample.{sample_closed}
 use Rattle.prem_tasks.specs.Compiled.{placed_in}
@@ -15,7 +14,7 @@ use Rattle.prem_latency.proofs.Found.{found_once, wait_found, wait_is}
 use Rattle.prem_time.specs.declared.devices.Named.{Named}
 use Rattle.prem_time.specs.Words.{Distance, most_cycles}
 use Rattle.prem_time.specs.Times.{loads_in}
-use Rattle.prem_time.specs.Devices.{closed_to, closings_of, named_in, wait_by, wait_in}
+use Rattle.prem_time.specs.Devices.{closed_to, wait_by, wait_in}
 use Rattle.prem_time.specs.Fits.{ServesInTime}
 use Rattle.prem_time.proofs.Sample.{loads, sample_found, sample_loads}
 use Rattle.prem_time.proofs.Serving.{sets_serve_named}

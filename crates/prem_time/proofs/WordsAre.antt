@@ -1,7 +1,6 @@
 -- What words tell is in its range.
-use Rattle.std.specs.Prelude.{nat_le, option_map}
-use Rattle.std.specs.List.{AllByRecursion}
-use Rattle.std.proofs.Common.{◌≡◌, ℕ, zero, suc, ◌≤◌, ◌^◌, refl, ap, subst, arith, cond, leb, Bool, true, false, List, [], ◌∷◌, ◌++◌, Option, None, Some}
+use Rattle.std.specs.Prelude.{option_map}
+use Rattle.std.proofs.Common.{◌≡◌, ℕ, zero, suc, ◌≤◌, ◌^◌, refl, subst, arith, cond, leb, Bool, true, false, List, [], ◌∷◌, ◌++◌, Option, None, Some}
 use Rattle.std.proofs.lemmas.Bool.{leb-true}
 use Rattle.prem_line.specs.Numbers.{number_of, up_to}
 use Rattle.prem_plant.specs.Label.{is_name}

@@ -5,7 +5,7 @@ use Rattle.std.proofs.Common.{◌≡◌, refl, ℕ, List, [], ◌∷◌, true, f
 use Rattle.prem_resp.specs.declared.busy.load.Load.{Load}
 use Rattle.prem_resp.specs.declared.busy.length.Busy.TheVariants.{Within, Past}
 use Rattle.prem_time.specs.Times.{TaskTold}
-use Rattle.prem_time.specs.Words.{Asked, asked_of}
+use Rattle.prem_time.specs.Words.{asked_of}
 use Rattle.prem_time.specs.Devices.{DeviceTold}
 use Rattle.prem_time.specs.Lines.{numbers_text, time_text, wait_text}
 

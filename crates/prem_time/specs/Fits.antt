@@ -17,7 +17,6 @@ use Rattle.prem_resp.specs.Busy.Busy.{IsBalanced, IsLength}
 use Rattle.prem_resp.specs.Deadline.Images.{KeepsIntervals}
 use Rattle.prem_resp.specs.Fits.{found_in}
 use Rattle.prem_resp.specs.Lines.{all_within}
-use Rattle.prem_latency.specs.declared.wait.Asking.{Asking}
 use Rattle.prem_latency.specs.declared.wait.Closing.{Closing}
 use Rattle.prem_latency.specs.Wait.{IsRoom, IsWait, requests_in, top}
 use Rattle.prem_latency.specs.Images.{ServesDevice, ServesFound}

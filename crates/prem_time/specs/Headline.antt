@@ -19,7 +19,7 @@ use Rattle.prem_latency.specs.Wait.{requests_in}
 use Rattle.prem_time.specs.declared.devices.Named.{Named}
 use Rattle.prem_time.specs.Words.{Asked, Distance}
 use Rattle.prem_time.specs.Times.{limit_in, loads_in, told_at}
-use Rattle.prem_time.specs.Devices.{device_at, device_in, device_told, named_in, unknown_in, wait_in}
+use Rattle.prem_time.specs.Devices.{device_at, device_told, named_in, unknown_in, wait_in}
 use Rattle.prem_time.specs.Lines.{HasLine, TellsTask, device_line, limit_line}
 use Rattle.prem_time.specs.Fits.{EndsInTime, IsNamedAt, IsPast, KeepsTimes, ServesInTime, WhyLate}
 use Rattle.prem_time.specs.Stages.{set_text, unknown_line}

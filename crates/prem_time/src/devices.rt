@@ -1,5 +1,5 @@
 // The devices that words name.
-ghost use Rattle.std.specs.Prelude.{◌≡◌, IfOk, map, option_map};
+ghost use Rattle.std.specs.Prelude.{◌≡◌, IfOk, option_map};
 ghost use Rattle.prem_tasks.specs.Lawful.{device_names, has_name};
 ghost use Rattle.prem_latency.specs.Sets.{asking_of};
 ghost use Rattle.prem_time.specs.Asked.{distances_in};

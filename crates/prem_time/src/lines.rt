@@ -1,5 +1,5 @@
 // What is written of the times of a set.
-ghost use Rattle.std.specs.Prelude.{◌≡◌, ◌≤◌, ◌^◌, [], ◌∷◌, ◌++◌, All, IfOk, OnOk, IfSome, length, map, string_bytes};
+ghost use Rattle.std.specs.Prelude.{◌≡◌, [], ◌∷◌, ◌++◌, All, IfOk, OnOk, length, map, string_bytes};
 ghost use Rattle.prem_line.specs.Spelled.{ended};
 ghost use Rattle.prem_resp.specs.Busy.Busy.{IsLoad};
 ghost use Rattle.prem_wcet.specs.TimedOf.{interval_of, times_in};

@@ -1,6 +1,6 @@
 // The marked calls of each task, counted as their intervals end.
 ghost use Rattle.std.specs.Prelude.{◌≡◌, IfOk, replicate, slice_index, slice_set};
-ghost use Rattle.prem_wave.specs.Calls.{all_counted, counted, one_more, with_call};
+ghost use Rattle.prem_wave.specs.Calls.{all_counted, counted, with_call};
 
 use prem_cycle::EndedInterval;
 use prem_plant::TaskId;

@@ -1,6 +1,6 @@
 // What the core and the tasks do in a cycle, by the machine before it.
-ghost use Rattle.std.specs.Prelude.{◌≡◌, ◌++◌, IfOk, OnOk, length, slice_index};
-ghost use Rattle.prem_sched.specs.Schedule.{is_ready, task_at};
+ghost use Rattle.std.specs.Prelude.{◌≡◌, ◌++◌, IfOk, OnOk, slice_index};
+ghost use Rattle.prem_sched.specs.Schedule.{is_ready};
 ghost use Rattle.prem_cycle.specs.Core.{is_paid, phase_in};
 ghost use Rattle.prem_machine.specs.Parts.{state_of};
 ghost use Rattle.prem_wave.specs.Signals.{away_word, bit, chosen, core_task, doing_of, each, interval_word, is_open, phase_word, predictable_word, switching, task_values_with, task_word, values_before};

@@ -1,5 +1,5 @@
 // The run of an image, of which a dump is written as it goes.
-ghost use Rattle.std.specs.Prelude.{◌≡◌, ℕ, ◌≤◌, ◌<◌, ◌-◌, ◌^◌, ◌++◌, ◌&&◌, nat_lt, max, suc, unwrap_or, length, drop, IfOk, OnOk, Some, true, false};
+ghost use Rattle.std.specs.Prelude.{◌≡◌, ℕ, ◌≤◌, ◌<◌, ◌-◌, ◌^◌, ◌++◌, ◌&&◌, nat_lt, max, unwrap_or, length, drop, IfOk, OnOk, Some, true, false};
 ghost use Rattle.prem_list.specs.Sequence.{items_of};
 ghost use Rattle.prem_sched.specs.Schedule.{is_ready, task_at};
 ghost use Rattle.prem_cycle.specs.State.{rule_in};

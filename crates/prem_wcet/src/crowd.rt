@@ -2,7 +2,7 @@
 ghost use Rattle.std.specs.Prelude.{◌≡◌, ◌≤◌, ◌<◌, ◌++◌, ◌%◌, ◌^◌, [], length, slice_index, filter, nat_le, IfOk};
 ghost use Rattle.std.specs.List.{list_all};
 ghost use Rattle.prem_plant.specs.Ranges.{IsPlant};
-ghost use Rattle.prem_layout.specs.Footprint.{count_in, lines_of};
+ghost use Rattle.prem_layout.specs.Footprint.{lines_of};
 ghost use Rattle.prem_wcet.specs.Crowds.{IsCrowd};
 
 use prem_bounds::line_cost;

@@ -9,7 +9,7 @@ ghost use Rattle.prem_layout.specs.Parts.{stub_passes};
 ghost use Rattle.prem_layout.specs.Stubs.{stub_of};
 ghost use Rattle.prem_split.specs.PlanOf.{plan_of};
 ghost use Rattle.prem_foot.specs.PlacesOf.{IsPlanAt};
-ghost use Rattle.prem_bounds.specs.Scale.{IsScale, clipped};
+ghost use Rattle.prem_bounds.specs.Scale.{clipped};
 ghost use Rattle.prem_place.specs.Placed.PlacedOf.{IsPlacedTask};
 ghost use Rattle.prem_wcet_laws.specs.Opens.{opens_of};
 ghost use Rattle.prem_wcet.specs.Lengths.{IsOpening, opens_in};

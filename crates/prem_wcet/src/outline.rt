@@ -1,8 +1,8 @@
 // The statements of a function with their code, cut out of the function's pieces.
-ghost use Rattle.std.specs.Prelude.{◌≡◌, ◌≤◌, ◌++◌, ◌∷◌, [], IfOk, OnOk, length, map};
+ghost use Rattle.std.specs.Prelude.{◌≡◌, ◌≤◌, ◌++◌, [], IfOk, OnOk, length, map};
 ghost use Rattle.std.specs.Option.{option_map};
 ghost use Rattle.prem_list.specs.Sequence.{items_of};
-ghost use Rattle.prem_asm.specs.Pieces.{Pieces, no_pieces, skip_words};
+ghost use Rattle.prem_asm.specs.Pieces.{skip_words};
 ghost use Rattle.prem_asm.specs.PiecesOf.{piece_of, pieces_of};
 ghost use Rattle.prem_tree.specs.Resolve.ResolvedOf.{term_of};
 ghost use Rattle.prem_wcet_laws.specs.Scopes.{globals_in_result, globals_in_term, globals_in_terms};

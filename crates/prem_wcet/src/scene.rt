@@ -1,7 +1,6 @@
 // What is known of a task at the code of a function.
-ghost use Rattle.std.specs.Prelude.{◌≡◌, IfOk, OnOk, length, map, [], ◌∷◌};
+ghost use Rattle.std.specs.Prelude.{◌≡◌, IfOk, OnOk, [], ◌∷◌};
 ghost use Rattle.std.specs.List.{list_any};
-ghost use Rattle.prem_list.specs.Sequence.{items_of};
 ghost use Rattle.prem_layout.specs.Footprint.{global_range};
 ghost use Rattle.prem_wcet_laws.specs.Scopes.{fact_of};
 ghost use Rattle.prem_wcet_laws.specs.Parted.{cuts};

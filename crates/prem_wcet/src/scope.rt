@@ -1,17 +1,14 @@
 // The charge of code that runs as one scope.
 ghost use Rattle.std.specs.Prelude.{◌≡◌, ◌+◌, ◌≤◌, ◌<◌, ◌^◌, ◌++◌, [], true, IfOk, length};
-ghost use Rattle.prem_asm.specs.Pieces.{followed, no_pieces, size_of};
+ghost use Rattle.prem_asm.specs.Pieces.{followed, size_of};
 ghost use Rattle.prem_asm.specs.PiecesOf.{pieces_of};
 ghost use Rattle.prem_isa.specs.Decode.{cost_of};
-ghost use Rattle.prem_plant.specs.Ranges.{IsPlant};
-ghost use Rattle.prem_layout.specs.Bounds.{weight_at};
-ghost use Rattle.prem_layout.specs.Footprint.{lines_of, place_at};
+ghost use Rattle.prem_layout.specs.Footprint.{lines_of};
 ghost use Rattle.prem_bounds.specs.Scale.{clipped};
-ghost use Rattle.prem_bounds.specs.Told.{Tells};
 ghost use Rattle.prem_bounds.specs.TableOf.{listed};
 ghost use Rattle.prem_wcet_laws.specs.Scopes.{charge, charge_with};
 ghost use Rattle.prem_wcet_laws.specs.Weights.{weighted_from};
-ghost use Rattle.prem_wcet.specs.Crowds.{IsCache, IsCrowd, place_weight};
+ghost use Rattle.prem_wcet.specs.Crowds.{IsCache, place_weight};
 ghost use Rattle.prem_wcet.specs.Known.{EndsWithin, TellsKnown, bare_span};
 ghost use Rattle.prem_wcet.specs.Outlines.{code_of, span_in};
 ghost use Rattle.prem_wcet.specs.PartsOf.{parts_of};

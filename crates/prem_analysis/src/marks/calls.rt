@@ -1,5 +1,5 @@
 // The functions that steps call.
-ghost use Rattle.std.specs.Prelude.{◌≡◌, ◌++◌, map, length, IfOk, OnOk};
+ghost use Rattle.std.specs.Prelude.{◌≡◌, ◌++◌, map, IfOk, OnOk};
 ghost use Rattle.prem_analysis.specs.Marks.Called.{called, list_called};
 
 use prem_tree::resolve::{Routine, Step};

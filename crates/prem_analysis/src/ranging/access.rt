@@ -1,7 +1,7 @@
 // The rules that an access can break.
 ghost use Rattle.std.specs.Prelude.{◌≡◌, ◌&&◌, not, pos, ◌-ℤ◌, map, slice_get};
 ghost use Rattle.prem_list.specs.Sequence.{items_of};
-ghost use Rattle.prem_word.specs.Ranges.{from_to, exactly, encloses};
+ghost use Rattle.prem_word.specs.Ranges.{from_to, encloses};
 ghost use Rattle.prem_syntax.specs.SyntaxOf.{global_of};
 ghost use Rattle.prem_syntax.specs.Reach.{is_in};
 ghost use Rattle.prem_ranges.specs.Regions.{area_holds, areas_hold};

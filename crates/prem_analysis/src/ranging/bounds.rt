@@ -1,9 +1,9 @@
 // The numbers of a counting loop.
-ghost use Rattle.std.specs.Prelude.{◌≡◌, ◌≤ℤ◌, ◌<ℤ◌, ◌*◌, ◌+◌, ◌^◌, ◌≤◌, min, pos, negsuc};
+ghost use Rattle.std.specs.Prelude.{◌≡◌, ◌≤ℤ◌, ◌*◌, ◌+◌, ◌^◌, ◌≤◌, min, pos, negsuc};
 ghost use Rattle.prem_word.specs.declared.kind.Kind.TheVariants.{Int};
 ghost use Rattle.prem_word.specs.Ranges.{from_to, whole, encloses};
 ghost use Rattle.prem_ranges.specs.RangeRules.{first_of};
-ghost use Rattle.prem_ranges.specs.RangeBreaches.{in_range_of_int, in_turns, in_counting_loop};
+ghost use Rattle.prem_ranges.specs.RangeBreaches.{in_turns, in_counting_loop};
 ghost use Rattle.prem_ranges.specs.After.{end_of, turn_bound, body_range, range_behind};
 ghost use Rattle.prem_analysis.specs.Ranging.View.{span_of, found_of};
 

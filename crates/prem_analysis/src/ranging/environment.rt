@@ -1,5 +1,5 @@
 // What is known of the locals, in a vector that changes.
-ghost use Rattle.std.specs.Prelude.{◌≡◌, slice_get};
+ghost use Rattle.std.specs.Prelude.{◌≡◌};
 ghost use Rattle.prem_word.specs.Ranges.{from_to};
 ghost use Rattle.prem_syntax.specs.Resolve.{kind_of};
 ghost use Rattle.prem_tree.specs.Resolve.ResolvedOf.{term_of};

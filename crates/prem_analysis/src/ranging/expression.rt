@@ -17,7 +17,7 @@ use crate::ranging::range::Range;
 use crate::ranging::saves::{refine_saved, restore};
 use crate::ranging::site::Site;
 use crate::ranging::table::{convert, operator, range_of_type, unary};
-use prem_syntax::{Place, UnOp};
+use prem_syntax::Place;
 use prem_tree::resolve::{Term, kind_of};
 use prem_word::{BinOp, Kind};
 use std::alloc::{AllocError, Global};

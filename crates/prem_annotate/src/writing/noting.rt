@@ -1,5 +1,5 @@
 // The text of a program with annotations.
-ghost use Rattle.std.specs.Prelude.{◌≡◌, ◌++◌, ◌≤◌, length, map, Ok, OnOk, IfOk};
+ghost use Rattle.std.specs.Prelude.{◌≡◌, ◌++◌, map, Ok, OnOk, IfOk};
 ghost use Rattle.prem_syntax.specs.Resolve.{functions_of};
 ghost use Rattle.prem_syntax.specs.SyntaxOf.{function_of, item_of, program_of};
 ghost use Rattle.prem_text.specs.Texts.{reads};

@@ -1,5 +1,5 @@
 // The texts of annotations.
-ghost use Rattle.std.specs.Prelude.{◌≡◌, ◌++◌, [], map, OnOk, IfOk};
+ghost use Rattle.std.specs.Prelude.{◌≡◌, ◌++◌, map, OnOk, IfOk};
 ghost use Rattle.prem_syntax.specs.SyntaxOf.{region_of};
 ghost use Rattle.prem_text.specs.Canonical.Canonical.{kind_for};
 ghost use Rattle.prem_text.specs.Canonical.Printed.{lexeme_bytes};

@@ -1,5 +1,5 @@
 // The greatest count over the paths of steps.
-ghost use Rattle.std.specs.Prelude.{◌≡◌, ℕ, ◌*◌, drop, slice_index};
+ghost use Rattle.std.specs.Prelude.{◌≡◌, ◌*◌, drop, slice_index};
 ghost use Rattle.prem_tree.specs.Resolve.ResolvedOf.{loops_of, list_loops};
 ghost use Rattle.prem_bounds.specs.Counts.Count.{clipped, first_turn, most_of_step, most_of_list};
 

@@ -1,7 +1,6 @@
 // The bounds of a compiled set.
 ghost use Rattle.std.specs.Prelude.{◌≡◌, [], ◌++◌, IfOk, OnOk, map, slice_index_or, string_bytes};
 ghost use Rattle.std.specs.List.{flat_map};
-ghost use Rattle.prem_list.specs.Sequence.{items_of};
 ghost use Rattle.prem_syntax.specs.Name.{name_bytes};
 ghost use Rattle.prem_bounds.specs.Facts.FactOf.{fact_of};
 ghost use Rattle.prem_place.specs.Verdict.Told.{numbered};

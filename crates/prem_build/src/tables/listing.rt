@@ -2,7 +2,7 @@
 ghost use Rattle.std.specs.Prelude.{◌≡◌, ◌≤◌, ◌<◌, ◌+◌, ◌-◌, ◌*◌, [], ◌∷◌, ◌++◌, IfOk, IfSome, IsNone, OnOk, length, slice_get};
 ghost use Rattle.prem_line.specs.Hexadecimal.{hex_word};
 ghost use Rattle.prem_compile.specs.CompiledOf.{compiled_of};
-ghost use Rattle.prem_build.specs.Tables.Listing.{bytes_at, code_text, list_text, part_line, part_text, parts_text, placed_text, task_line, words_of};
+ghost use Rattle.prem_build.specs.Tables.Listing.{bytes_at, code_text, list_text, part_line, part_text, placed_text, task_line, words_of};
 
 use crate::tables::names::{first_name, rest_names};
 use prem_asm::list;

@@ -1,5 +1,5 @@
 // The longest interval of each task of a set.
-ghost use Rattle.std.specs.Prelude.{◌≡◌, ◌≤◌, IfOk, map};
+ghost use Rattle.std.specs.Prelude.{◌≡◌, IfOk, map};
 ghost use Rattle.std.specs.List.{AllByRecursion};
 ghost use Rattle.prem_list.specs.Sequence.{items_of};
 ghost use Rattle.prem_plant.specs.Ranges.{IsPlant};

@@ -9,7 +9,6 @@ use Rattle.prem_plant.specs.declared.plant.Device.{Device}
 use Rattle.prem_tasks.specs.Broken.{TaskText, TaskSet}
 use Rattle.prem_sets_sound.specs.ImagePremises.Accepted.{HasTextValues, HasValues}
 use Rattle.prem_set.specs.Lawful.{IsEntry, IsSet}
-use Rattle.prem_set.specs.Run.Run.{run_of as lines_of_run}
 use Rattle.prem_set.specs.declared.fault.SetFail.{SetFail}
 use Rattle.prem_set.specs.declared.task.TaskEntry.{TaskEntry}
 use Rattle.prem_set.specs.SetFile.{SetData, set_of as set_of_text, task_names as entry_names}

@@ -1,8 +1,7 @@
 // The run file of a task set.
 ghost use Rattle.std.specs.Prelude.{◌≡◌, ◌≤◌, IfOk, IsErrOf, map};
 ghost use Rattle.prem_io.specs.Counts.{Rose};
-ghost use Rattle.prem_tasks.specs.Broken.{TaskText as Stated};
-ghost use Rattle.prem_tasks.specs.SetOf.{set_of, task_of};
+ghost use Rattle.prem_tasks.specs.SetOf.{set_of};
 ghost use Rattle.prem_set.specs.Run.Lawful.{IsLawfulRun};
 ghost use Rattle.prem_answer.specs.Stages.{Comes, IsReadAs, IsReadAsBy};
 ghost use Rattle.prem_exec.specs.Sources.Sources.{input_of, names_of, run_limit, run_of_bytes, run_of_bytes_by};

@@ -9,7 +9,7 @@ ghost use Rattle.prem_asm.specs.PiecesOf.{pieces_of};
 ghost use Rattle.prem_layout.specs.Template.Limits.{excess};
 ghost use Rattle.prem_layout.specs.Template.Parts.{parts_of, codes_of};
 ghost use Rattle.prem_gen.specs.Term.Excess.{Refuses};
-ghost use Rattle.prem_gen.specs.Table.Table.{all_marks, callees_from};
+ghost use Rattle.prem_gen.specs.Table.Table.{callees_from};
 ghost use Rattle.prem_gen.specs.Codes.Codes.{code_at, excess_at, FunctionsSmall, CalleesFit};
 
 use crate::codes::loops::{loops, loops_of_all};

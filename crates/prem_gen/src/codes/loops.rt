@@ -1,5 +1,5 @@
 // The counting loops of functions.
-ghost use Rattle.std.specs.Prelude.{◌≡◌, ◌≤◌, ◌+◌, min, take};
+ghost use Rattle.std.specs.Prelude.{◌≡◌, ◌+◌, min};
 ghost use Rattle.prem_tree.specs.Resolve.ResolvedOf.{loops_of, list_loops, all_loops};
 ghost use Rattle.prem_gen.specs.Codes.Loops.{most_loops};
 

@@ -1,5 +1,5 @@
 // The frame of a function by its text, without memory. What passes 2^32 counts as 2^32.
-ghost use Rattle.std.specs.Prelude.{◌≡◌, ◌≤◌, ◌+◌, min, length};
+ghost use Rattle.std.specs.Prelude.{◌≡◌, ◌+◌, min, length};
 ghost use Rattle.prem_list.specs.Sequence.{items_of};
 ghost use Rattle.prem_syntax.specs.SyntaxOf.{statement_of, statements_of};
 ghost use Rattle.prem_gen.specs.Frame.FrameOf.{most, frame_bytes};

@@ -1,7 +1,6 @@
 // Frames of functions. What passes 2^32 counts as 2^32, which is more than a frame may have.
-ghost use Rattle.std.specs.Prelude.{◌≡◌, ◌≤◌, ◌+◌, min};
+ghost use Rattle.std.specs.Prelude.{◌≡◌, min};
 ghost use Rattle.prem_gen.specs.Routine.StepCode.{whiles_of, list_whiles};
-ghost use Rattle.prem_gen.specs.Routine.RoutineCode.{locals_in};
 ghost use Rattle.prem_gen.specs.Frame.FrameOf.{most, frame_bytes};
 ghost use Rattle.prem_gen.specs.Routine.FrameOf.{slots_in};
 

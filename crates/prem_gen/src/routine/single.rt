@@ -8,7 +8,7 @@ ghost use Rattle.prem_tree.specs.Resolve.ResolvedOf.{term_of};
 ghost use Rattle.prem_asm.specs.Pieces.{followed, no_pieces, straight};
 ghost use Rattle.prem_asm.specs.PiecesOf.{pieces_of};
 ghost use Rattle.prem_layout.specs.Template.Terms.{only, term_code};
-ghost use Rattle.prem_layout.specs.Template.Steps.{store_of, store_slot, load_slot, scalar_store, element_store, bound_test, step_code, count_code, turn_code, store_argument, argument_code, target_code};
+ghost use Rattle.prem_layout.specs.Template.Steps.{store_of, store_slot, load_slot, scalar_store, element_store, bound_test, step_code, count_code, turn_code, argument_code, target_code};
 ghost use Rattle.prem_layout.specs.Template.Limits.{too_deep, too_deep_among, first_of};
 ghost use Rattle.prem_gen.specs.Term.Numbers.{IsSmall, HasSmall, from_part};
 ghost use Rattle.prem_gen.specs.Term.Deep.{Finds};

@@ -1,5 +1,5 @@
 // The code of steps.
-ghost use Rattle.std.specs.Prelude.{◌≡◌, ◌<◌, ◌≤◌, ◌+◌, ◌^◌, OnOk, IfOk, [], ◌∷◌};
+ghost use Rattle.std.specs.Prelude.{◌≡◌, ◌<◌, ◌+◌, ◌^◌, OnOk, IfOk};
 ghost use Rattle.prem_list.specs.Sequence.{items_of};
 ghost use Rattle.prem_tree.specs.Resolve.ResolvedOf.{loops_of, list_loops};
 ghost use Rattle.prem_asm.specs.Pieces.{followed, straight};

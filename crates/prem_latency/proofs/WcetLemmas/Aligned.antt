@@ -15,8 +15,8 @@ use Rattle.prem_sound.specs.Script.Conforms.{GoesOrDone}
 use Rattle.prem_asm.specs.Steps.{AllSteps}
 use Rattle.prem_sets_sound.specs.Weave.Weave.{Section, segment_of, section_dids, IsSection, Weave, ends, goes, calls, dids_of, calls_of, IsWeave}
 use Rattle.prem_sound.specs.Scopes.Scopes.{Scope, charge_of, single}
-use Rattle.prem_sound.specs.Scopes.Strands.{Strand, runs, dids_along, GoesTo, IsWithinInterval, IsStrand, change_behind, last_change, calls_begun, scope_due, begun_along}
-use Rattle.prem_sound.specs.Scopes.Strands.{charges_along, EndsNoJob, StretchesWithin}
+use Rattle.prem_sound.specs.Scopes.Strands.{Strand, runs, GoesTo, IsWithinInterval, change_behind, last_change, calls_begun, scope_due, begun_along}
+use Rattle.prem_sound.specs.Scopes.Strands.{charges_along, StretchesWithin}
 use Rattle.prem_sound.specs.Scopes.Strands as S
 use Rattle.prem_sound.proofs.ScopesLemmas.Alone.{singles_are_due}
 use Rattle.prem_wcet_laws.specs.Divided.{Division, alone, together, section, steps_of, lone_charge, scope_charge, StaysOn, AreLoose, IsCourse, path_of}

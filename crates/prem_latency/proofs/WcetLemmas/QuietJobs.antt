@@ -13,7 +13,6 @@ use Rattle.prem_layout.specs.Template.Steps.{function_code}
 use Rattle.prem_layout.specs.Template.Frames.{frame_of}
 use Rattle.prem_layout.specs.Parts.{start_part}
 use Rattle.prem_layout.specs.Footprint.{place_at}
-use Rattle.prem_code_laws.specs.GenLaws.Fits.{Callees}
 use Rattle.prem_code_laws.specs.GenLaws.Table.{one_of}
 use Rattle.prem_sets_sound.specs.StubLaws.Initial.Standing.{setting_of, globals_in}
 use Rattle.prem_sets_sound.specs.StubLaws.StubFits.Within.{codes_in}

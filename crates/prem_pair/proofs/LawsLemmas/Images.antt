@@ -1,7 +1,7 @@
 -- Two images whose tasks have scripts for all input words are sound together.
-use Rattle.std.proofs.Common.{◌≡◌, ℕ, ◌+◌, ◌≤◌, arith, List, []}
+use Rattle.std.proofs.Common.{ℕ, ◌+◌, ◌≤◌, arith, List, []}
 use Rattle.prem_pair.proofs.Prelude.{IsTrace, IsRequest, Setup, Request, last_request, all_costs, due_of, ScriptsFor, GivesScripts, PairsOfImagesAreSound, Promise, last_release, PutWords}
-use Rattle.prem_pair.proofs.Prelude.{IsRun, HasScripts, All-nil, max}
+use Rattle.prem_pair.proofs.Prelude.{IsRun, All-nil, max}
 use Rattle.prem_pair.proofs.LawsLemmas.Finishing.{pairs_finish}
 use Rattle.prem_pair.proofs.LawsLemmas.Goodness.{pairs_are_good}
 
@@ -22,26 +22,6 @@ image_run passes p content promises due requests h t w = record {
   apart = h.image.apart;
   zero = h.zero;
   words = w;
-}
-
--- what is due within a limit
-due_within : (limit last due more : ℕ) → limit ≡ last + more → last + due ≤ limit → due ≤ more
-due_within limit last due more is h = omega (arith, is, h)
-
--- an image with scripts for all lists of words gives them, where its limit counts what its jobs are due from the last release on
-scripts_given : (passes : ℕ → ℕ) (p : Setup) (content : List ℕ) (promises : List (List ℕ) → ℕ → Promise) (limit due : ℕ) →
-    limit ≡ last_release p.tasks + due → HasScripts passes p content promises limit → GivesScripts passes p content promises due
-scripts_given passes p content promises limit due is h = record {
-  image = h.image;
-  zero = h.zero;
-  own = h.own;
-  for_inputs = λ inputs i. record {
-    runs = h.runs inputs;
-    scripts = h.scripts inputs;
-    are_scripts = h.are_scripts inputs i;
-    keep = h.keep inputs i;
-    within = due_within limit (last_release p.tasks) (due_of p (h.scripts inputs)) due is (h.limits inputs i);
-  };
 }
 
 pub pairs_of_images : PairsOfImagesAreSound

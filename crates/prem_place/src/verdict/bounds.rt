@@ -3,7 +3,7 @@ ghost use Rattle.std.specs.Prelude.{◌≡◌, ◌≤◌, ◌++◌, ◌∷◌, [
 ghost use Rattle.std.specs.List.{AllByRecursion};
 ghost use Rattle.prem_plant.specs.Ranges.{IsPlant};
 ghost use Rattle.prem_layout.specs.Facts.{interval_facts};
-ghost use Rattle.prem_layout.specs.Rules.{over_tasks, bound_rules};
+ghost use Rattle.prem_layout.specs.Rules.{bound_rules};
 ghost use Rattle.prem_bounds.specs.Facts.Laws.{is_large};
 ghost use Rattle.prem_place.specs.Placed.PlacedOf.{IsPlacedTask, placed_of, lines_of};
 ghost use Rattle.prem_place.specs.Verdict.Told.{numbered, with_task, is_small, bounds_of, told_of, told_from, large_in, Ends};

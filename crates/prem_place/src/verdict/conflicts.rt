@@ -1,5 +1,5 @@
 // The rule on conflicts: no set of the cache is asked for more lines of a marked function than it has ways.
-ghost use Rattle.std.specs.Prelude.{◌≡◌, ◌≤◌, IfOk, IfSome, map, length};
+ghost use Rattle.std.specs.Prelude.{◌≡◌, ◌≤◌, IfOk, map, length};
 ghost use Rattle.std.specs.List.{AllByRecursion};
 ghost use Rattle.prem_plant.specs.Ranges.{IsPlant};
 ghost use Rattle.prem_layout.specs.Rules.{over_tasks, conflict_rules};

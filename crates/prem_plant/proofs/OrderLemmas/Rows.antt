@@ -1,6 +1,6 @@
 -- The definitions at small values, computed.
 use Rattle.std.specs.List.{concat}
-use Rattle.std.proofs.Common.{◌≡◌, List, [], ◌∷◌, true, false, refl}
+use Rattle.std.proofs.Common.{◌≡◌, [], ◌∷◌, false, refl}
 use Rattle.prem_plant.specs.Order.Order.{is_in, lru, fifo, misses_of, orders_after, cache_misses, of_set}
 use Rattle.prem_plant.specs.Order.Orders.{way_for}
 

@@ -1,8 +1,8 @@
 // The parts of a task, and the areas of devices.
-ghost use Rattle.std.specs.Prelude.{◌≡◌, ◌<◌, ◌≤◌, ◌*◌, ◌^◌, ◌++◌, ◌∷◌, [], length, map, OnOk};
+ghost use Rattle.std.specs.Prelude.{◌≡◌, ◌<◌, ◌≤◌, ◌*◌, ◌++◌, length, map, OnOk};
 ghost use Rattle.std.specs.List.{AllByRecursion};
 ghost use Rattle.prem_syntax.specs.SyntaxOf.{global_of};
-ghost use Rattle.prem_layout.specs.Parts.{stub_passes, part, element_size, global_size, code_parts, stub_parts, global_parts, area_parts};
+ghost use Rattle.prem_layout.specs.Parts.{stub_passes, element_size, global_size, code_parts, stub_parts, global_parts, area_parts};
 ghost use Rattle.prem_split.specs.PlanOf.{plan_of};
 ghost use Rattle.prem_prefetch.specs.Parts.Parts.{sizes_of, parts_with, IsShortPlan, IsShortGlobal, IsWordSize};
 

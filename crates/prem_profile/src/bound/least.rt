@@ -1,5 +1,5 @@
 // The bills of statements without marked calls: as one scope, or one by one.
-ghost use Rattle.std.specs.Prelude.{◌≡◌, ◌+◌, ◌<◌, ◌≤◌, ◌^◌, ◌++◌, ◌∷◌, [], drop, length, take, IfOk, OnOk};
+ghost use Rattle.std.specs.Prelude.{◌≡◌, ◌+◌, ◌<◌, ◌^◌, ◌++◌, ◌∷◌, [], drop, length, take, IfOk, OnOk};
 ghost use Rattle.prem_list.specs.Sequence.{items_of};
 ghost use Rattle.prem_asm.specs.Pieces.{size_of};
 ghost use Rattle.prem_asm.specs.PiecesOf.{pieces_of};

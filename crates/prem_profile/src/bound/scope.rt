@@ -1,5 +1,5 @@
 // The bill of code as one scope, which has the lines that it brings in at its first word.
-ghost use Rattle.std.specs.Prelude.{◌≡◌, ◌+◌, ◌<◌, ◌≤◌, ◌^◌, ◌++◌, ◌∷◌, [], get_or, length, IfOk, OnOk};
+ghost use Rattle.std.specs.Prelude.{◌≡◌, ◌+◌, ◌<◌, ◌^◌, ◌++◌, ◌∷◌, [], get_or, length, IfOk, OnOk};
 ghost use Rattle.prem_asm.specs.Pieces.{followed, no_pieces, size_of};
 ghost use Rattle.prem_asm.specs.PiecesOf.{pieces_of};
 ghost use Rattle.prem_plant.specs.Ranges.{IsPlant};

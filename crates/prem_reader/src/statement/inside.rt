@@ -6,7 +6,7 @@ ghost use Rattle.prem_syntax.specs.Name.{name_bytes};
 ghost use Rattle.prem_syntax.specs.SyntaxOf.{expression_of};
 ghost use Rattle.prem_text.specs.Lexing.Token.Lexeme.{lexeme_of, seen_of};
 ghost use Rattle.prem_text.specs.Grammar.Slots.{is_left_parenthesis};
-ghost use Rattle.prem_text.specs.Grammar.Statement.{for_output, for_index, for_if, for_while, for_low, for_high, for_value, for_argument, on, least_of, used, at_start, lone_name, called, within};
+ghost use Rattle.prem_text.specs.Grammar.Statement.{for_output, for_index, for_if, for_while, for_low, for_high, for_value, for_argument, least_of, used, at_start, lone_name, called, within};
 ghost use Rattle.prem_reader.specs.Expression.StateOf.{state_of};
 ghost use Rattle.prem_reader.specs.Statement.PointOf.{around_of, use_of, taken_of};
 ghost use Rattle.prem_reader.specs.Statement.Goings.{gone, gone_of, left};

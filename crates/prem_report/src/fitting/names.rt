@@ -1,5 +1,5 @@
 // The names of an image.
-ghost use Rattle.std.specs.Prelude.{◌≡◌, IfOk, map};
+ghost use Rattle.std.specs.Prelude.{◌≡◌, IfOk};
 ghost use Rattle.prem_image.specs.Records.{task_names};
 ghost use Rattle.prem_report.specs.Fitting.Named.{devices_in, names_in};
 

@@ -1,5 +1,5 @@
 // The least length of a busy period.
-ghost use Rattle.std.specs.Prelude.{◌≡◌, ◌+◌, ◌*◌, ◌≤◌, ◌<◌, ◌^◌, All, length, take};
+ghost use Rattle.std.specs.Prelude.{◌≡◌, ◌+◌, ◌*◌, ◌≤◌, ◌<◌, ◌^◌, All, length};
 ghost use Rattle.prem_resp.specs.Busy.Busy.{IsLoad, blocking, demand, earliest, earliest_in, greatest_interval, interference, load_at, releases_in, utilisation};
 ghost use Rattle.prem_resp.specs.Busy.Found.{IsEarly, IsFound};
 

@@ -1,5 +1,5 @@
 // The mail file of a task set.
-ghost use Rattle.std.specs.Prelude.{◌≡◌, ◌≤◌, IfOk, IsErrOf, length, map, string_bytes};
+ghost use Rattle.std.specs.Prelude.{◌≡◌, ◌≤◌, IfOk, IsErrOf, length, map};
 ghost use Rattle.prem_io.specs.Counts.{Rose};
 ghost use Rattle.prem_tasks.specs.SetOf.{set_of};
 ghost use Rattle.prem_mail.specs.Feeds.{AreFeeds};

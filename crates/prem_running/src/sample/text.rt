@@ -1,7 +1,6 @@
 // What is written of the run of a sample.
-ghost use Rattle.std.specs.Prelude.{◌≡◌, ◌++◌, ◌%◌, ◌^◌, IfOk, OnOk, codes, length, map, string_bytes};
+ghost use Rattle.std.specs.Prelude.{◌≡◌, ◌++◌, ◌%◌, ◌^◌, IfOk, OnOk, map, string_bytes};
 ghost use Rattle.std.specs.List.{sum};
-ghost use Rattle.prem_list.specs.Sequence.{items_of};
 ghost use Rattle.prem_cycle.specs.FactsOf.{report_in, task_report};
 ghost use Rattle.prem_running.specs.Sample.Sample.{outputs_line, sample_line, sample_text, totals_text, words_of_all};
 

@@ -1,5 +1,5 @@
 // The set of a sample, and what comes to its run.
-ghost use Rattle.std.specs.Prelude.{◌≡◌, ◌≤◌, ◌++◌, [], ◌∷◌, ◌+◌, ◌*◌, IfOk, OnOk, map};
+ghost use Rattle.std.specs.Prelude.{◌≡◌, ◌≤◌, ◌++◌, [], ◌∷◌, ◌+◌, IfOk, OnOk, map};
 ghost use Rattle.prem_list.specs.Sequence.{items_of};
 ghost use Rattle.prem_plant.specs.declared.plant.Device.{Device};
 ghost use Rattle.prem_tasks.specs.SetOf.{set_of, task_of};

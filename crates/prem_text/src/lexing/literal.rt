@@ -1,6 +1,6 @@
 // The spelling of literals.
-ghost use Rattle.std.specs.Prelude.{◌≡◌, ◌≤◌, ◌<◌, ◌^◌, length, slice_index, IfSome};
-ghost use Rattle.prem_text.specs.Lexing.Literal.{digit_value, is_suffix, digits, with_kind, literal_word};
+ghost use Rattle.std.specs.Prelude.{◌≡◌, ◌≤◌, ◌<◌, length};
+ghost use Rattle.prem_text.specs.Lexing.Literal.{digit_value, digits, with_kind, literal_word};
 
 use prem_syntax::Kind;
 

@@ -1,7 +1,7 @@
 // The reasons in their order, and the program with tiles.
-ghost use Rattle.std.specs.Prelude.{◌≡◌, ◌≤◌, IfOk, map, Some, None};
+ghost use Rattle.std.specs.Prelude.{◌≡◌, ◌≤◌, IfOk, Some, None};
 ghost use Rattle.prem_syntax.specs.Name.{name_bytes};
-ghost use Rattle.prem_syntax.specs.SyntaxOf.{function_of, local_of, program_of};
+ghost use Rattle.prem_syntax.specs.SyntaxOf.{function_of, program_of};
 ghost use Rattle.prem_syntax.specs.Resolve.{functions_of};
 ghost use Rattle.prem_syntax.specs.ProgramRules.{IsWellFormed};
 ghost use Rattle.prem_tiling.specs.Shapes.Shape.{marked_named, shape_of, turns_of};

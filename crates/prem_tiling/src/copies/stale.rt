@@ -1,5 +1,5 @@
 // Stale locals in a turn of a loop.
-ghost use Rattle.std.specs.Prelude.{◌≡◌, ◌++◌, drop, length, map, OnOk, IfOk};
+ghost use Rattle.std.specs.Prelude.{◌≡◌, drop, length, map, OnOk, IfOk};
 ghost use Rattle.std.specs.Option.{option_map};
 ghost use Rattle.prem_syntax.specs.Name.{name_bytes};
 ghost use Rattle.prem_syntax.specs.SyntaxOf.{expression_of};

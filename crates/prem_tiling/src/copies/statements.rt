@@ -1,6 +1,5 @@
 // Copies of statements, in which calls of a function are calls of its tiles.
 ghost use Rattle.std.specs.Prelude.{◌≡◌, [], map, None, IfOk};
-ghost use Rattle.std.specs.Str.{bytes_eq};
 ghost use Rattle.std.specs.Option.{option_map};
 ghost use Rattle.prem_list.specs.Sequence.{items_of};
 ghost use Rattle.prem_syntax.specs.Name.{name_bytes};

@@ -1,5 +1,5 @@
 // Resolves the names of a program.
-ghost use Rattle.std.specs.Prelude.{◌≡◌, ℕ, map, List, [], ◌∷◌, ◌++◌, IfOk, OnOk};
+ghost use Rattle.std.specs.Prelude.{◌≡◌, map, List, [], ◌∷◌, ◌++◌, IfOk, OnOk};
 ghost use Rattle.std.specs.Option.{option_map};
 ghost use Rattle.prem_list.specs.Sequence.{items_of};
 ghost use Rattle.prem_word.specs.Words.{result_kind};
@@ -7,7 +7,7 @@ ghost use Rattle.prem_syntax.specs.Name.{name_bytes};
 ghost use Rattle.prem_syntax.specs.Syntax.{FunctionText, ProgramText};
 ghost use Rattle.prem_syntax.specs.SyntaxOf.{item_of, program_of, parameter_of, function_of, expression_of, local_of, statement_of, statements_of};
 ghost use Rattle.prem_syntax.specs.Resolved.{Constant};
-ghost use Rattle.prem_syntax.specs.Resolve.{functions_of, parameter_names, resolve_locals, local_names, resolve_statement, resolve_statements, loops_in, loops_within, set_steps, input_steps, call_steps, target_of, loop_local, promoted, common, operand_kind, unary_kind, kind_of, variable_term, element_term, binary_term, resolve_term, meaning_of};
+ghost use Rattle.prem_syntax.specs.Resolve.{functions_of, parameter_names, resolve_locals, local_names, resolve_statement, resolve_statements, loops_in, loops_within, set_steps, input_steps, call_steps, target_of, loop_local, promoted, common, operand_kind, kind_of, variable_term, element_term, binary_term, resolve_term, meaning_of};
 ghost use Rattle.prem_names.specs.Scopes.{scope_of, with_locals, SameItems};
 ghost use Rattle.prem_tree.specs.Resolve.NamesOf.{AreBehind};
 ghost use Rattle.prem_tree.specs.Resolve.ResolvedOf.{term_of, IsStep, AreSteps, IsRoutine, IsResolved};

@@ -1,5 +1,4 @@
-use Rattle.std.specs.Prelude.{Option, Ok, Err, map, string_bytes}
-use Rattle.prem_io.specs.Files.{Files}
+use Rattle.std.specs.Prelude.{Ok, Err, map, string_bytes}
 use Rattle.prem_answer.specs.Stages.{reply_of}
 use Rattle.prem_answer.proofs.Told.{complete_is, given_is_answered, given_is_settled, no_memory_is, not_read_fault, read_fault_is}
 use Rattle.prem_answer.proofs.tool.run_tool.Goals as goal

@@ -1,4 +1,4 @@
-use Rattle.std.proofs.Common.{◌≡◌, ℕ, ◌^◌, Option, ap, sym, ◌∙◌, slice_index, option_map}
+use Rattle.std.proofs.Common.{◌≡◌, ◌^◌, Option, ap, sym, ◌∙◌, slice_index, option_map}
 use Rattle.prem_isa.specs.declared.effect.Outcome.{Outcome}
 use Rattle.prem_isa.specs.declared.fields.Fields.{Fields}
 use Rattle.prem_isa.specs.declared.instr.Instr.{Instr}

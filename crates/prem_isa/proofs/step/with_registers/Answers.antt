@@ -1,5 +1,5 @@
 use Rattle.std.specs.Prelude.{slice_index, option_map, ◌==◌, if◌then◌else◌}
-use Rattle.std.proofs.Common.{◌≡◌, ℕ, ◌+◌, Option, ap, sym, ◌∙◌}
+use Rattle.std.proofs.Common.{ℕ, Option, ap, sym, ◌∙◌}
 use Rattle.prem_isa.specs.declared.instr.Instr.{Instr}
 use Rattle.prem_isa.specs.declared.instr.Instr.TheVariants.{Op, MulDiv}
 use Rattle.prem_isa.specs.declared.effect.Phase.{Phase}

@@ -1,4 +1,4 @@
-use Rattle.std.proofs.Common.{◌≡◌, ◌<◌, ◌+◌, ◌++◌, [], ◌∷◌, List, ap, ◌∙◌, sym, arith, length, append_assoc}
+use Rattle.std.proofs.Common.{◌<◌, ◌+◌, ◌++◌, [], ◌∷◌, List, ap, ◌∙◌, sym, arith, length, append_assoc}
 use Rattle.prem_resp.specs.declared.busy.length.Busy.TheVariants.{Within}
 use Rattle.prem_latency.specs.declared.wait.Closing.{Closing}
 use Rattle.prem_time.proofs.ClosingsFit.{closed_behind, closings_from, closings_step}

@@ -1,6 +1,6 @@
-use Rattle.std.proofs.Common.{◌≡◌, ℕ, ◌≤◌, Option, sym, subst, arith}
+use Rattle.std.proofs.Common.{◌≡◌, sym, subst, arith}
 use Rattle.std.proofs.lemmas.Grind.{common_steps}
-use Rattle.prem_sched.specs.Schedule.{Before, IsSet, is_ready, next_ready, task_at}
+use Rattle.prem_sched.specs.Schedule.{Before, IsSet, next_ready}
 use Rattle.prem_sched.proofs.Choices.{next_ready_later, ready_kept}
 use Rattle.prem_sched.proofs.sched.Sched.next_ready.Goals as goal
 

@@ -1,4 +1,4 @@
-use Rattle.std.proofs.Common.{◌≡◌, ◌≤◌, ℕ, ap, ◌∙◌, sym, subst, arith}
+use Rattle.std.proofs.Common.{◌≤◌, ℕ, ap, ◌∙◌, sym, subst, arith}
 use Rattle.prem_list.specs.Sequence.{items_of}
 use Rattle.prem_image.specs.Text.{image_text}
 use Rattle.prem_cycle.specs.Inputs.{setup_of, words_of}
