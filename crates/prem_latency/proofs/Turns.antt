@@ -1,11 +1,11 @@
 -- Each turn of the search but the first counts a request or a job more than the one before, so there are no more turns than these.
 use Rattle.std.specs.Prelude.{All}
-use Rattle.std.proofs.Common.{◌≡◌, ℕ, suc, ◌+◌, ◌-◌, ◌*◌, ◌<◌, ◌≤◌, arith, List, [], ◌∷◌, take, ⊎_elim}
+use Rattle.std.proofs.Common.{◌≡◌, ℕ, suc, ◌+◌, ◌-◌, ◌*◌, ◌<◌, ◌≤◌, ◌∙◌, refl, ap, sym, subst, arith, List, [], ◌∷◌, take, Some, None, ⊎_elim}
 use Rattle.std.proofs.lemmas.Bool.{cases_lt}
 use Rattle.std.proofs.lemmas.Nat.{mul-le}
 use Rattle.std.proofs.lemmas.List.Elements.{All-take}
 use Rattle.prem_latency.specs.Wait.{Asking, Closing, IsAsking, IsClosing, requests_in, jobs_in, transfers_in, closed_in, rest_behind, demand}
-use Rattle.prem_latency.specs.Turns.{requests_all, jobs_all, counted}
+use Rattle.prem_latency.specs.Turns.{requests_all, jobs_all, counted, first_cycles, cycles_behind, EndsWith}
 use Rattle.prem_latency.specs.Timeline.{no_asking, no_closing}
 use Rattle.prem_latency.proofs.Divides.{requests_grow}
 use Rattle.prem_latency.proofs.Found.{jobs_grow}
@@ -100,3 +100,46 @@ module _ (devices : List Asking) (tasks : List Closing) (d : ℕ) (asks : All Is
       let a : counted devices tasks d cycles ≤ counted devices tasks d most = counted_grows cycles most le in
       let b : turns + counted devices tasks d first ≤ 1 + counted devices tasks d cycles = x.few in
       omega (arith, a, b)
+
+-- ---- which turns it takes
+
+module _ (devices : List Asking) (tasks : List Closing) (d : ℕ) where
+  pub before_all : (cycles : ℕ) → cycles ≡ first_cycles devices tasks d → cycles ≡ cycles_behind devices tasks d 0
+  unfolding cycles_behind
+  before_all cycles e = e
+
+  pub behind_next : (cycles turns next : ℕ) → next ≡ demand devices tasks d cycles → cycles ≡ cycles_behind devices tasks d turns →
+      next ≡ cycles_behind devices tasks d (turns + 1)
+  unfolding cycles_behind
+  behind_next cycles turns next e at =
+      let one : suc turns ≡ turns + 1 = omega arith in
+      e ∙ ap (demand devices tasks d) at ∙ ap (cycles_behind devices tasks d) one
+
+  -- each turn so far began with fewer cycles than those behind them, and with no more than the most
+  pub record Begun (most cycles turns : ℕ) : Type 0 where
+    pub fewer : (m : ℕ) → m < turns → cycles_behind devices tasks d m < cycles
+    pub within : (m : ℕ) → m < turns → cycles_behind devices tasks d m ≤ most
+
+  pub begun_none : (most cycles : ℕ) → Begun most cycles 0
+  begun_none most cycles = record { fewer = λ m lt. absurd (omega (arith, lt)); within = λ m lt. absurd (omega (arith, lt)) }
+
+  pub begun_next : (most cycles turns next : ℕ) → cycles ≡ cycles_behind devices tasks d turns → cycles ≤ most → cycles < next → Begun most cycles turns → Begun most next (turns + 1)
+  begun_next most cycles turns next at le lt h =
+      record {
+        fewer = λ m before.
+            ⊎_elim (λ (less : m < turns). let x : cycles_behind devices tasks d m < cycles = h.fewer m less in omega (arith, x, lt))
+            (λ (last : turns ≤ m). let e : m ≡ turns = omega (arith, last, before) in subst (λ n. n < next) (at ∙ ap (cycles_behind devices tasks d) (sym e)) lt)
+            (cases_lt m turns);
+        within = λ m before.
+            ⊎_elim (λ (less : m < turns). h.within m less)
+            (λ (last : turns ≤ m). let e : m ≡ turns = omega (arith, last, before) in subst (λ n. n ≤ most) (at ∙ ap (cycles_behind devices tasks d) (sym e)) le)
+            (cases_lt m turns);
+      }
+
+  pub ends_found : (cycles turns most : ℕ) → cycles ≡ cycles_behind devices tasks d turns → Begun most cycles turns → EndsWith devices tasks d most (turns + 1) (Some cycles)
+  ends_found cycles turns most at h =
+      let one : turns ≡ turns + 1 - 1 = omega arith in
+      record { some = omega arith; last = at ∙ ap (cycles_behind devices tasks d) one; fewer = λ m lt. h.fewer m (omega (arith, lt)) }
+
+  pub ends_past : (cycles turns most : ℕ) → most < cycles → cycles ≡ cycles_behind devices tasks d turns → Begun most cycles turns → EndsWith devices tasks d most turns None
+  ends_past cycles turns most past at h = record { more = subst (λ n. most < n) at past; within = h.within }

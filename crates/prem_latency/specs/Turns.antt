@@ -1,7 +1,7 @@
 -- From where the search for a wait begins, and in how many turns it ends. Shares of the bus are counted in parts of 2^64, rounded down, and
 -- time is in cycles.
-use Rattle.std.specs.Prelude.{ℕ, ◌+◌, ◌-◌, ◌*◌, ◌/◌, ◌<◌, ◌≤◌, ◌^◌, max, min, All, length, List, [], ◌∷◌, take, Option, Some, None}
-use Rattle.prem_latency.specs.Wait.{Asking, Closing, IsAsking, IsClosing, IsRoom, requests_in, jobs_in, rest_behind}
+use Rattle.std.specs.Prelude.{ℕ, zero, suc, ◌≡◌, ◌+◌, ◌-◌, ◌*◌, ◌/◌, ◌<◌, ◌≤◌, ◌^◌, max, min, All, length, List, [], ◌∷◌, take, Option, Some, None}
+use Rattle.prem_latency.specs.Wait.{Asking, Closing, IsAsking, IsClosing, IsRoom, requests_in, jobs_in, rest_behind, demand}
 pub use Rattle.prem_latency.specs.declared.wait.Search.{Search}
 
 -- ---- where it begins
@@ -70,6 +70,29 @@ used_up devices tasks d = used devices tasks d + length (take (d + 1) devices) +
 abbrev pub RoomIsThere : Type 0
 RoomIsThere = (devices : List Asking) (tasks : List Closing) (d : ℕ) → All IsAsking devices → All IsClosing tasks → used_up devices tasks d < 2 ^ 64 →
     IsRoom devices tasks d (owed_once devices tasks d * 2 ^ 64 / (2 ^ 64 - used_up devices tasks d) + 1)
+
+-- ---- which turns it takes
+
+-- the cycles so far behind so many turns, each of which goes on with what the bus has to do in those before it
+unfoldable pub cycles_behind : List Asking → List Closing → (d turns : ℕ) → ℕ
+cycles_behind devices tasks d zero = first_cycles devices tasks d
+cycles_behind devices tasks d (suc turns) = demand devices tasks d (cycles_behind devices tasks d turns)
+
+-- so many turns find these cycles: the last one began with them, and each one before with fewer
+pub record Find (devices : List Asking) (tasks : List Closing) (d turns cycles : ℕ) : Type 0 where
+  pub some : 1 ≤ turns
+  pub last : cycles ≡ cycles_behind devices tasks d (turns - 1)
+  pub fewer : (m : ℕ) → m + 1 < turns → cycles_behind devices tasks d m < cycles
+
+-- they pass the most: behind the last one the cycles are more, and each one began with no more
+pub record Pass (devices : List Asking) (tasks : List Closing) (d most turns : ℕ) : Type 0 where
+  pub more : most < cycles_behind devices tasks d turns
+  pub within : (m : ℕ) → m < turns → cycles_behind devices tasks d m ≤ most
+
+-- so many turns, and no other number of them, end with this
+abbrev pub EndsWith : List Asking → List Closing → (d most turns : ℕ) → Option ℕ → Type 0
+EndsWith devices tasks d most turns (Some cycles) = Find devices tasks d turns cycles
+EndsWith devices tasks d most turns None = Pass devices tasks d most turns
 
 -- ---- how many turns it takes
 
