@@ -29,8 +29,8 @@ class Core(machine_model.Machine):
         """Its part of a cycle. True: a `pm.exec` issued."""
         if self.transactions:
             if holds:
-                self.transactions[0] -= 1
-                if not self.transactions[0]:
+                self.transactions[0][1] -= 1
+                if not self.transactions[0][1]:
                     self.transactions.pop(0)
                 self.settle()
             return False

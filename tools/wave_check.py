@@ -73,7 +73,7 @@ class Before:
     def __init__(self, machine, calls):
         self.now, self.mode, self.phase = machine.now, machine.mode, getattr(machine, "phase", None)
         self.ended, self.next_phase = list(machine.ended), list(machine.next_phase)
-        self.window, self.wants = machine.window, bool(machine.transactions)
+        self.window, self.wants = machine.window, f"core{machine.transactions[0][0]}" if machine.transactions else None
         self.misses, self.backs = machine.misses, machine.writebacks
         self.transfers, self.intervals, self.calls = len(machine.transfers), len(machine.intervals), list(calls)
         self.released = [machine.released(task) for task in range(len(machine.tasks))]
@@ -112,7 +112,7 @@ def told(before, after):
         yield f"task_{plain(it['name'])}.job", before.ended[task]
         yield f"task_{plain(it['name'])}.call", before.calls[task]
     has, line, direction = on_bus(before, after)
-    yield "bus.holder", "device" if has is not None else "core" if before.wants else "free"
+    yield "bus.holder", "device" if has is not None else before.wants or "free"
     yield "bus.miss", int(after.misses > before.misses)
     yield "bus.back", int(after.writebacks > before.backs)
     for device, it in enumerate(after.devices):

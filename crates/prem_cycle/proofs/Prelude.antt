@@ -8,7 +8,7 @@ pub use Rattle.prem_cycle.specs.Cycle.{with_memory, with_now}
 pub use Rattle.prem_cycle.specs.FactsOf.{Report, TaskReport, has_room_for_word, inputs_size, report_of, stop_of, with_input, with_word}
 pub use Rattle.prem_cycle.specs.Inputs.{FitsRun, IsRequest, image_run, no_device, setup_of, words_of}
 pub use Rattle.prem_cycle.specs.Issue.{Attempt, Executes, Issued, LineTouch, Traps, attempt_behind, attempt_by, attempt_fetched, attempt_in, attempt_of, attempt_seen, behind_touches}
-pub use Rattle.prem_cycle.specs.Issue.{effect_in, is_execution, issued_by, issued_with, line_touch, one_if, owed_by, owed_for, stored_in, task_after, task_changed, task_moved, touched_with}
+pub use Rattle.prem_cycle.specs.Issue.{effect_in, is_execution, issued_by, issued_with, line_touch, one_if, owed_by, owed_for, write_back, fill, stored_in, task_after, task_changed, task_moved, touched_with}
 pub use Rattle.prem_cycle.specs.Issue.{value_of, view_behind, view_touched, with_store, with_touch, with_touches}
 pub use Rattle.prem_cycle.specs.Run.{CycleStep, coming_step, did_in, memory_of, run_of, step_by, step_in, step_with, wants_input_of, wants_word}
 unfoldable pub use Rattle.prem_cycle.specs.Run.{cycles_of, steps_of}
@@ -25,7 +25,7 @@ pub use Rattle.prem_cycle.specs.Runs.Position.Own.{AllOwn, IsFree, IsOwn, IsOwnO
 pub use Rattle.prem_cycle.specs.Runs.Transfer.Lengths.{EndsInTime, IsOnItsWay, TransfersAreOnTheirWay, TransfersTakeTheirCycles, device_cost}
 pub use Rattle.prem_cycle.specs.Runs.Window.Windows.{CarriesInside, CyclesKeepWindows, HaveCosts, InputsKeepWindows, IsQuiet, LiesInside, QuietOutsideExecution, RunsKeepWindows}
 pub use Rattle.prem_cycle.specs.Runs.Window.Windows.{WindowCloses, WindowsHold, closing_at, closing_in, is_last}
-pub use Rattle.prem_cycle.specs.State.{CoreState, Counts, Debt, Log, MachineState, Setup, Task, Work, first_core, first_list, first_task, first_tasks, no_record, record_of, rule_in}
+pub use Rattle.prem_cycle.specs.State.{CoreState, Counts, Debt, Log, MachineState, Setup, Task, Transaction, Work, shorter, first_core, first_list, first_task, first_tasks, no_record, record_of, rule_in}
 pub use Rattle.prem_cycle.specs.State.{start_of, task_in}
 pub use Rattle.prem_cycle.specs.declared.facts.DeviceFacts.{DeviceFacts}
 pub use Rattle.prem_cycle.specs.declared.facts.EndedInterval.{EndedInterval}

@@ -1,6 +1,6 @@
 -- Instructions that hit, one behind the other, are cycles of the machine.
 use Rattle.std.proofs.Common.{◌≡◌, ℕ, zero, suc, ◌+◌, ◌≤◌, ◌<◌, Bool, false, List, [], ◌∷◌, None, Some, Option, length, map, get_or, refl, ap, sym, ◌∙◌, subst, arith}
-use Rattle.prem_machine.proofs.Prelude.{cycles_of-add, CoreTurn, Issues, core_issue, core_issued, core_turn, is_full, log_size, output_count, Attempt, Executes, Issued, attempt_behind}
+use Rattle.prem_machine.proofs.Prelude.{Transaction, cycles_of-add, CoreTurn, Issues, core_issue, core_issued, core_turn, is_full, log_size, output_count, Attempt, Executes, Issued, attempt_behind}
 use Rattle.prem_machine.proofs.Prelude.{attempt_in, attempt_of, attempt_seen, issued_with, owed_by, task_after, task_changed, task_moved, view_touched, with_store, with_touch, with_touches}
 use Rattle.prem_machine.proofs.Prelude.{cycles_of, lacks_word, CoreState, Counts, MachineState, Setup, Task, first_task, no_record, record_of, rule_in, task_in, Request, TaskRecord, cost_of}
 use Rattle.prem_machine.proofs.Prelude.{Change, Stay, Effect, Phase, Stored, Instr, Lui, Auipc, Jal, Jalr, Branch, Load, Store, OpImm, Op, MulDiv, Fence, Ecall, Ebreak, PmMem, PmExec, PmEnd}
@@ -107,7 +107,7 @@ turn_at p k now s core a b n lt next =
     let there : task_in w k ≡ a.task = get_or-set_same s.work.tasks k a.task (first_task no_record []) lt in
     let A : Task → Attempt = λ t. attempt_seen plant.target plant.memory (view_touched rule plant.line a.cache m t.pc) t (attempt_in plant.target plant.memory (view_of a.cache m) t) in
     let does : attempt_behind rule p k w ≡ Executes h.instr e = ap A there ∙ h.does in
-    let turn : Change → Phase → ℕ → List ℕ → Issued → CoreTurn = λ change phase cost owed x.
+    let turn : Change → Phase → ℕ → List Transaction → Issued → CoreTurn = λ change phase cost owed x.
     record { work = x.work; core = core_issued now k i change cost owed core; counts = with_store phase e.stored (with_touches phase x.touches (counts_at n a)); trapped = None } in
     let I : Task → Issued = λ t. issued_with rule plant.line (slice_set w.tasks k (task_after r e t)) e.stored (t.pc / plant.line) (touch_of rule a.cache (t.pc / plant.line) m) e.access in
     let F : Task → CoreTurn = λ t. turn e.change t.phase (cost_of h.instr) (owed_by plant (I t).touches) (I t) in

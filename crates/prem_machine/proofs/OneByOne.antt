@@ -3,7 +3,7 @@ use Rattle.std.proofs.Common.{◌≡◌, cond, ◌*◌, ℕ, zero, suc, ◌+◌,
 use Rattle.std.specs.Prelude.{not}
 use Rattle.std.proofs.lemmas.List.{append-nil, append_assoc}
 use Rattle.prem_machine.proofs.Prelude.{cycles_of-add, CoreTurn, Issues, core_issue, core_issued, core_turn, is_full, is_over, log_size, output_count, Attempt, Traps, Executes, attempt_behind}
-use Rattle.prem_machine.proofs.Prelude.{step_of-goes, step_of, LineTouch, issued_by, issued_with, one_if, with_store, with_touch, with_touches, cycles_of, CoreState, Debt, Counts, MachineState, Setup, Task, Work}
+use Rattle.prem_machine.proofs.Prelude.{step_of-goes, step_of, LineTouch, issued_by, issued_with, one_if, with_store, with_touch, with_touches, cycles_of, CoreState, Debt, Counts, MachineState, Setup, Task, Transaction, Work}
 use Rattle.prem_machine.proofs.Prelude.{first_task, no_record, rule_in, task_in, Request, Change, Stay, Effect, Phase, Stored, Instr, Access, IsNext, Leads, here, then_hits, Spot, counts_at, spot_in, work_at}
 use Rattle.prem_machine.proofs.Prelude.{bus_cycles, cycles_owed, IsLone, Interval, Plant, get_or-set_same, cases_lt, ReplacementRule}
 use Rattle.prem_lru.specs.CacheState.{Touched}
@@ -70,7 +70,7 @@ record OwesAt (rule : ReplacementRule) (p : Setup) (requests : List Request) (ta
   debt : Debt
   is : cycles_of rule p requests m s ≡ owed_state task s w n (s.now + m) debt
 
-owes_at : (rule : ReplacementRule) (p : Setup) (requests : List Request) (task until : ℕ) (s : MachineState) (w : Work) (n : Counts) (cost : ℕ) (owed : List ℕ) (all : ℕ) →
+owes_at : (rule : ReplacementRule) (p : Setup) (requests : List Request) (task until : ℕ) (s : MachineState) (w : Work) (n : Counts) (cost : ℕ) (owed : List Transaction) (all : ℕ) →
     IsLone task until requests s → s.trapped ≡ None → 1 ≤ cost → all ≡ bus_cycles owed + cost → s.now + all ≤ until → is_over s ≡ false → is_full (lone_state task s w n 0 0) ≡ false →
     core_turn rule p s.now (Issues task s.core.interval) s.work s.core s.log.counts
     ≡ record { work = w; core = core_issued s.now task s.core.interval Stay cost owed s.core; counts = n; trapped = None } →
@@ -90,7 +90,7 @@ pub none_is : (rule : ReplacementRule) (p : Setup) (requests : List Request) (s 
 unfolding cycles_of
 none_is rule p requests s m lt = let z : m ≡ 0 = omega (arith, lt) in ap (λ k. cycles_of rule p requests k s) z
 
-pub lone_one : (rule : ReplacementRule) (p : Setup) (requests : List Request) (task until : ℕ) (s : MachineState) (w : Work) (n : Counts) (cost : ℕ) (owed : List ℕ) (all : ℕ) →
+pub lone_one : (rule : ReplacementRule) (p : Setup) (requests : List Request) (task until : ℕ) (s : MachineState) (w : Work) (n : Counts) (cost : ℕ) (owed : List Transaction) (all : ℕ) →
     IsLone task until requests s → s.trapped ≡ None → 1 ≤ cost → all ≡ bus_cycles owed + cost → s.now + all ≤ until → is_over s ≡ false → is_full (lone_state task s w n 0 0) ≡ false →
     core_turn rule p s.now (Issues task s.core.interval) s.work s.core s.log.counts
     ≡ record { work = w; core = core_issued s.now task s.core.interval Stay cost owed s.core; counts = n; trapped = None } → IsOneExecution rule p requests task all s
@@ -124,7 +124,7 @@ lone_one rule p requests task until s w n cost owed all h none some is le over f
 
 -- ---- its first cycle alone
 
-pub first_one : (rule : ReplacementRule) (p : Setup) (requests : List Request) (task until : ℕ) (s t : MachineState) (w : Work) (n : Counts) (cost : ℕ) (owed : List ℕ) →
+pub first_one : (rule : ReplacementRule) (p : Setup) (requests : List Request) (task until : ℕ) (s t : MachineState) (w : Work) (n : Counts) (cost : ℕ) (owed : List Transaction) →
     IsLone task until requests s → t ≡ cycles_of rule p requests 1 s → t.now ≡ s.now + 1 →
     core_turn rule p s.now (Issues task s.core.interval) s.work s.core s.log.counts
     ≡ record { work = w; core = core_issued s.now task s.core.interval Stay cost owed s.core; counts = n; trapped = None } →
@@ -241,7 +241,7 @@ leads_told p requests task until (suc n) s c h none lt (then_hits b f hit) le ro
 
 -- ---- one of the machine's parts
 
-pub went_one : {P : Type 0} (p : Setting) (requests : List Request) (x : Parts P) (w : Works P) (f : Facts) (task until cost all : ℕ) (touches : List LineTouch) (owed : List ℕ) →
+pub went_one : {P : Type 0} (p : Setting) (requests : List Request) (x : Parts P) (w : Works P) (f : Facts) (task until cost all : ℕ) (touches : List LineTouch) (owed : List Transaction) →
     IsLone task until requests (state_of x) → Stands p requests x → x.trapped ≡ None → GoesOn p task x.work x.facts w f touches cost → owed_by p.plant touches ≡ owed → IsKept x.work x.facts w f →
     1 ≤ cost → all ≡ bus_cycles owed + cost → x.now + all ≤ until → put_out (items_of x.facts.tasks) + 2 ≤ log_size → length (items_of x.facts.intervals) < log_size →
     IsOneExecution (rule_in (setup_in p)) (setup_in p) requests task all (state_of x)

@@ -21,7 +21,7 @@ pub use Rattle.prem_cycle.specs.Runs.Dull.Issuing.{IssuesAlone, continues, idle_
 pub use Rattle.prem_cycle.specs.Runs.Dull.Rest.{IsSteady, NoneArrive, Rests, Within, bus_rest, core_rest, mode_rest, passed, running_rest, transactions_passed}
 pub use Rattle.prem_cycle.specs.Runs.Window.Wants.{lacks_word, wants_in}
 pub use Rattle.prem_cycle.specs.Runs.Window.Windows.{WindowCloses, WindowsHold, closing_at}
-pub use Rattle.prem_cycle.specs.State.{CoreState, Counts, Debt, Log, MachineState, Setup, Task, Work, first_log, first_task, first_tasks, no_debt, no_record, record_of, rule_in, task_in}
+pub use Rattle.prem_cycle.specs.State.{CoreState, Counts, Debt, Log, MachineState, Setup, Task, Transaction, Work, shorter, first_log, first_task, first_tasks, no_debt, no_record, record_of, rule_in, task_in}
 pub use Rattle.prem_cycle.specs.declared.facts.DeviceFacts.{DeviceFacts}
 pub use Rattle.prem_cycle.specs.declared.facts.Facts.{Facts}
 pub use Rattle.prem_cycle.specs.declared.facts.TaskFacts.{TaskFacts}

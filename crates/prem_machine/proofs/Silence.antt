@@ -4,7 +4,7 @@ use Rattle.std.specs.Prelude.{nat_le, ◌&&◌}
 use Rattle.prem_machine.proofs.Prelude.{cycles_of-add, step_of-goes, dull_rest, fewer_rest, none_arrives, one_step, steady_later, CoreMove, Passes, Issues, begin_switch, core_issued}
 use Rattle.prem_machine.proofs.Prelude.{core_turn, move_in, move_running, paid_on_bus, want_of, Arrivals, arrivals_at, bus_at, cycle_of, is_full, is_over, move_at, step_of, with_memory}
 use Rattle.prem_machine.proofs.Prelude.{Attempt, Traps, Executes, attempt_of, attempt_seen, behind_touches, CycleStep, cycles_of, step_by, step_in, step_with, wants_input_of, wants_word}
-use Rattle.prem_machine.proofs.Prelude.{AreDull, IsDull, idle_turn, IsSteady, Within, core_rest, mode_rest, passed, running_rest, lacks_word, Setup, Task, Work, Debt, CoreState, Counts}
+use Rattle.prem_machine.proofs.Prelude.{AreDull, IsDull, idle_turn, IsSteady, Within, core_rest, mode_rest, passed, running_rest, lacks_word, Setup, Task, Transaction, Work, Debt, CoreState, Counts}
 use Rattle.prem_machine.proofs.Prelude.{MachineState, task_in, Interval, Mode, Point, Switching, Idle, Turned, bus_turn, wants, Request, Access, Change, Stay, Memory, Execute, End, Job}
 use Rattle.prem_machine.proofs.Prelude.{Effect, Instr, ReplacementRule, bus_cycles, cycles_owed, AreSilent, ended_so_far, IsLone, Target, TaskJobs, cases_lt, nat_tests}
 use Rattle.prem_cycle.specs.declared.state.Mode.TheVariants.{Running}
@@ -110,7 +110,7 @@ dull_silent rule p requests n s h dull =
 
 -- ---- cycles in which a task that runs alone pays what it owes
 
-owed_passes : (p : Setup) (b : Turned) (task : ℕ) (s : MachineState) (w : Work) (n : Counts) (t : ℕ) (ns : List ℕ) (begun : Bool) (cost : ℕ) → 1 ≤ bus_cycles ns + cost →
+owed_passes : (p : Setup) (b : Turned) (task : ℕ) (s : MachineState) (w : Work) (n : Counts) (t : ℕ) (ns : List Transaction) (begun : Bool) (cost : ℕ) → 1 ≤ bus_cycles ns + cost →
     Passing (move_at p b (owed_state task s w n t (record { transactions = ns; begun = begun; cost = cost })))
 owed_passes p b task s w n t [] begun zero h = absurd (omega (arith, h))
 owed_passes p b task s w n t [] begun (suc cost) h = tt
@@ -124,17 +124,17 @@ record OwesLess (rule : ReplacementRule) (p : Setup) (requests : List Request) (
   less : cycles_owed next + 1 ≡ cycles_owed d
   none : next.transactions ≡ [] → next.begun ≡ false
 
-paid_less : (m : ℕ) (ns : List ℕ) (begun : Bool) (cost : ℕ) (x : Bool) → nat_le m 1 ≡ x →
+paid_less : (m : Transaction) (ns : List Transaction) (begun : Bool) (cost : ℕ) (x : Bool) → nat_le m.cycles 1 ≡ x →
     let d : Debt = record { transactions = m ∷ ns; begun = begun; cost = cost } in
     (cycles_owed (paid_on_bus (m ∷ ns) d) + 1 ≡ cycles_owed d) × ((paid_on_bus (m ∷ ns) d).transactions ≡ [] → (paid_on_bus (m ∷ ns) d).begun ≡ false)
 paid_less m ns begun cost true is =
-    let le : m ≤ 1 = grind (arith, nat_tests) in
+    let le : m.cycles ≤ 1 = grind (arith, nat_tests) in
     (rw is (omega (arith, le)), rw is (λ none. refl))
 paid_less m ns begun cost false is =
-    let more : 1 < m = grind (arith, nat_tests) in
+    let more : 1 < m.cycles = grind (arith, nat_tests) in
     (rw is (omega (arith, more)), rw is (λ none. absurd (cc)))
 
-owes_less : (rule : ReplacementRule) (p : Setup) (requests : List Request) (task until : ℕ) (s : MachineState) (w : Work) (n : Counts) (t : ℕ) (ns : List ℕ) (begun : Bool) (cost : ℕ) →
+owes_less : (rule : ReplacementRule) (p : Setup) (requests : List Request) (task until : ℕ) (s : MachineState) (w : Work) (n : Counts) (t : ℕ) (ns : List Transaction) (begun : Bool) (cost : ℕ) →
     IsLone task until requests s → s.now ≤ t → t < until → is_full (lone_state task s w n 0 0) ≡ false → (ns ≡ [] → begun ≡ false) → 1 ≤ bus_cycles ns + cost →
     OwesLess rule p requests task s w n t (record { transactions = ns; begun = begun; cost = cost })
 owes_less rule p requests task until s w n t [] begun zero h from lt full none some = absurd (omega (arith, some))
@@ -152,7 +152,7 @@ owes_less rule p requests task until s w n t [] begun (suc cost) h from lt full 
     step_is b = cycle_of rule p requests (owed_state task s w n t (record { transactions = []; begun = b; cost = suc cost })) ≡ lone_state task s w n (t + 1) cost
 owes_less rule p requests task until s w n t (m ∷ ns) begun cost h from lt full none some =
     let d : Debt = record { transactions = m ∷ ns; begun = begun; cost = cost } in
-    let paid = paid_less m ns begun cost (nat_le m 1) refl in
+    let paid = paid_less m ns begun cost (nat_le m.cycles 1) refl in
     record {
       next = paid_on_bus (m ∷ ns) d;
       is = not_over rule p requests task s w n t d full ∙ pays_on_bus rule p requests task until s w n t d h from lt (want begun);
@@ -239,7 +239,7 @@ unfolding cycles_of
 one_is rule p requests s = refl
 
 -- and all cycles of what it comes to owe
-pub lone_silent : (rule : ReplacementRule) (p : Setup) (requests : List Request) (task until : ℕ) (s : MachineState) (w : Work) (n : Counts) (cost : ℕ) (owed : List ℕ) (all : ℕ) →
+pub lone_silent : (rule : ReplacementRule) (p : Setup) (requests : List Request) (task until : ℕ) (s : MachineState) (w : Work) (n : Counts) (cost : ℕ) (owed : List Transaction) (all : ℕ) →
     IsLone task until requests s → s.trapped ≡ None → 1 ≤ cost → all ≡ bus_cycles owed + cost → s.now + all ≤ until → is_over s ≡ false → is_full (lone_state task s w n 0 0) ≡ false →
     core_turn rule p s.now (Issues task s.core.interval) s.work s.core s.log.counts
     ≡ record { work = w; core = core_issued s.now task s.core.interval Stay cost owed s.core; counts = n; trapped = None } →

@@ -1,6 +1,6 @@
 -- The cycles of instructions that take no input word.
 use Rattle.std.proofs.Common.{◌≡◌, ℕ, ◌+◌, ◌*◌, ◌≤◌, ◌<◌, false, List, Option, None, length, refl, ap, sym, ◌∙◌, subst, arith}
-use Rattle.prem_machine.proofs.Prelude.{is_full, log_size, next_cycle, with_now, LineTouch, attempt_in, attempt_of, owed_by, cycles_of, lacks_word, Log, MachineState, rule_in, task_in}
+use Rattle.prem_machine.proofs.Prelude.{is_full, log_size, next_cycle, with_now, LineTouch, attempt_in, attempt_of, owed_by, cycles_of, lacks_word, Log, Transaction, MachineState, rule_in, task_in}
 use Rattle.prem_machine.proofs.Prelude.{Facts, Mode, Request, next_input, told_by, Access, Effect, Done, Upshot, items_of, view_of, CoreParts, counts_in, put_out, ModeReady, bus_cycles}
 use Rattle.prem_machine.proofs.Prelude.{Runs, Stands, state_of, GoesOn, IsComing, IsKept, AreSilent, ended_so_far, IsLone, attempt_at, core_in, setup_in, work_in, Moment, Parts, Setting}
 use Rattle.prem_machine.proofs.Prelude.{Works, Plant}
@@ -36,7 +36,7 @@ told_lacks p requests x task until h s r lacks =
 
 -- ---- all that is owed is paid at once
 
-pub went_silent : {P : Type 0} (p : Setting) (requests : List Request) (x : Parts P) (w : Works P) (f : Facts) (task until cost all : ℕ) (touches : List LineTouch) (owed : List ℕ) →
+pub went_silent : {P : Type 0} (p : Setting) (requests : List Request) (x : Parts P) (w : Works P) (f : Facts) (task until cost all : ℕ) (touches : List LineTouch) (owed : List Transaction) →
     IsLone task until requests (state_of x) → Stands p requests x → Runs x.now (4 * x.now) requests x → x.trapped ≡ None → GoesOn p task x.work x.facts w f touches cost →
     owed_by p.plant touches ≡ owed → IsKept x.work x.facts w f → 1 ≤ cost → all ≡ bus_cycles owed + cost → x.now + all ≤ until → put_out (items_of x.facts.tasks) + 2 ≤ log_size →
     length (items_of x.facts.intervals) < log_size → lacks_word (core_in x.work task) (attempt_at x.work task) ≡ false →

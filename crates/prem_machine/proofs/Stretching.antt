@@ -2,7 +2,7 @@
 use Rattle.std.proofs.Common.{◌≡◌, ℕ, ◌+◌, ◌*◌, ◌-◌, ◌≤◌, ◌<◌, Bool, true, false, List, [], ◌∷◌, None, All, length, refl, ap, sym, ◌∙◌, subst, arith}
 use Rattle.std.specs.Prelude.{nat_le, is_some, ◌||◌}
 use Rattle.prem_machine.proofs.Prelude.{cycles_of-add, step_of-goes, issues_alone, goes_untrapped, CoreTurn, Issues, core_issued, core_turn, is_paid, want_of, is_finished, is_full, is_over}
-use Rattle.prem_machine.proofs.Prelude.{log_size, next_cycle, ticked, devices_reported, LineTouch, owed_by, cycles_of, IssuesAlone, continues, issue_joined, Counts, Log, MachineState, Setup}
+use Rattle.prem_machine.proofs.Prelude.{log_size, next_cycle, ticked, devices_reported, LineTouch, owed_by, cycles_of, IssuesAlone, continues, issue_joined, Counts, Log, MachineState, Setup, Transaction}
 use Rattle.prem_machine.proofs.Prelude.{rule_in, DeviceFacts, Facts, Mode, LiesIn, Held, Request, Stay, items_of, room_of, ReplacementRule, CoreParts, counts_in, dropped_in, log_in, put_out}
 use Rattle.prem_machine.proofs.Prelude.{ModeReady, core_with, bus_cycles, Runs, Stands, state_of, GoesOn, IsKept, AreSilent, IsLone, setup_in, with_counts, work_in, Moment, Parts, Setting}
 use Rattle.prem_machine.proofs.Prelude.{Works, nat_tests}
@@ -76,7 +76,7 @@ as_state task until requests s t h none sched core gates log trapped =
     (core ∙ ap (λ (u : MachineState). u.core) (as_lone task until requests s h none)) gates log (trapped ∙ none)
 
 -- the turn of the core
-pub turn_of : {P : Type 0} (p : Setting) (x : Parts P) (w : Works P) (f : Facts) (task cost : ℕ) (touches : List LineTouch) (owed : List ℕ) →
+pub turn_of : {P : Type 0} (p : Setting) (x : Parts P) (w : Works P) (f : Facts) (task cost : ℕ) (touches : List LineTouch) (owed : List Transaction) →
     GoesOn p task x.work x.facts w f touches cost → owed_by p.plant touches ≡ owed →
     core_turn (rule_in (setup_in p)) (setup_in p) x.now (Issues task x.moment.interval) (state_of x).work (core_with x.core.debt x.moment) (counts_in x.facts)
     ≡ record {
@@ -86,7 +86,7 @@ pub turn_of : {P : Type 0} (p : Setting) (x : Parts P) (w : Works P) (f : Facts)
       trapped = None;
     }
 turn_of p x w f task cost touches owed goes is =
-    let F : List ℕ → CoreTurn = λ o.
+    let F : List Transaction → CoreTurn = λ o.
     record {
       work = work_in w (items_of f.tasks);
       core = core_issued x.now task x.moment.interval Stay cost o (core_with x.core.debt x.moment);
@@ -95,7 +95,7 @@ turn_of p x w f task cost touches owed goes is =
     } in
     goes x.now x.moment.interval (core_with x.core.debt x.moment) ∙ ap F is
 
-pub went_state : {P : Type 0} (p : Setting) (requests : List Request) (x : Parts P) (w : Works P) (f : Facts) (task until cost all : ℕ) (touches : List LineTouch) (owed : List ℕ) →
+pub went_state : {P : Type 0} (p : Setting) (requests : List Request) (x : Parts P) (w : Works P) (f : Facts) (task until cost all : ℕ) (touches : List LineTouch) (owed : List Transaction) →
     IsLone task until requests (state_of x) → Stands p requests x → x.trapped ≡ None → GoesOn p task x.work x.facts w f touches cost → owed_by p.plant touches ≡ owed →
     IsKept x.work x.facts w f → 1 ≤ cost → all ≡ bus_cycles owed + cost → x.now + all ≤ until → put_out (items_of x.facts.tasks) + 2 ≤ log_size → length (items_of x.facts.intervals) < log_size →
     state_of (behind x w f (x.now + all) x.moment x.core) ≡ cycles_of (rule_in (setup_in p)) (setup_in p) requests all (state_of x)
@@ -133,7 +133,7 @@ alone task until requests s h lt =
       idle = h.idle s.now (omega arith) lt;
     }
 
-pub not_held : (ns : List ℕ) (begun : Bool) (cost : ℕ) → begun ≡ false → want_of (record { transactions = ns; begun = begun; cost = cost }) ≡ Held → ⊥
+pub not_held : (ns : List Transaction) (begun : Bool) (cost : ℕ) → begun ≡ false → want_of (record { transactions = ns; begun = begun; cost = cost }) ≡ Held → ⊥
 not_held [] begun cost is held = absurd (cc)
 not_held (n ∷ ns) true cost is held = absurd (cc)
 not_held (n ∷ ns) false cost is held = absurd (cc)

@@ -6,7 +6,7 @@ pub use Rattle.prem_cycle.specs.FactsOf.{devices_reported, inputs_size, stop_of}
 pub use Rattle.prem_cycle.specs.Issue.{Attempt, Executes, LineTouch, Traps, attempt_behind, attempt_in, attempt_of, attempt_seen, behind_touches, is_execution, is_memory, issued_with}
 pub use Rattle.prem_cycle.specs.Issue.{one_if, owed_by, task_changed, task_moved, view_touched}
 pub use Rattle.prem_cycle.specs.Run.{cycles_of, memory_of, run_of, wants_input_of}
-pub use Rattle.prem_cycle.specs.State.{CoreState, Counts, Debt, Log, MachineState, Setup, Task, Work, first_core, first_list, first_task, first_tasks, no_counts, no_debt, no_record, rule_in}
+pub use Rattle.prem_cycle.specs.State.{CoreState, Counts, Debt, Log, MachineState, Setup, Task, Transaction, Work, shorter, first_core, first_list, first_task, first_tasks, no_counts, no_debt, no_record, rule_in}
 pub use Rattle.prem_cycle.specs.State.{task_in}
 pub use Rattle.prem_cycle.specs.declared.facts.DeviceFacts.{DeviceFacts}
 pub use Rattle.prem_cycle.specs.declared.facts.Facts.{Facts}

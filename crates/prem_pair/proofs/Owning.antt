@@ -1,7 +1,7 @@
 -- A core's parts behind a cycle of its own.
 use Rattle.std.proofs.Common.{◌≡◌, ◌≢◌, ℕ, zero, suc, ◌+◌, ◌-◌, ◌*◌, ◌≤◌, ◌<◌, Bool, true, false, List, [], None, refl, ap, sym, ◌∙◌, subst, arith, All, length}
 use Rattle.std.specs.Prelude.{nat_le, ◌||◌, ◌&&◌, if◌then◌else◌}
-use Rattle.prem_pair.proofs.Prelude.{paid_on_bus, want_of, core_issued, is_full, log_size, LineTouch, owed_by, Debt, no_debt, rule_in, Mode, wants, is_new, CoreWant, No, New, Held, Request}
+use Rattle.prem_pair.proofs.Prelude.{paid_on_bus, want_of, core_issued, is_full, log_size, LineTouch, owed_by, Transaction, Debt, no_debt, rule_in, Mode, wants, is_new, CoreWant, No, New, Held, Request}
 use Rattle.prem_pair.proofs.Prelude.{Stay, items_of, same_state, counts_more, mode_after, behind, full_told, CoreParts, paid_once, counts_in, put_out, ModeReady, core_with, Stands, state_of}
 use Rattle.prem_pair.proofs.Prelude.{IsNextArrival, GoesOn, IsKept, setup_in, work_in, Moment, Parts, Setting, IsGoing, OwnCycle, OwnRun, no_cycle, one_more, PairState, clashes, stays_with}
 use Rattle.prem_pair.proofs.Prelude.{wanted, is_gates, two_want, MayStretch, Arrives, Goes, Holder, Nobody, First, Second, Gates, nat_tests}
@@ -21,14 +21,14 @@ kept_goes x w f m c periods r k mode first =
     }
 
 -- the state behind an instruction that goes on
-issued_state : {P : Type 0} (x : Parts P) (w : Works P) (f : Facts) (m : Moment) (c : CoreParts) (task cost : ℕ) (owed : List ℕ) → x.trapped ≡ None → IsKept x.work x.facts w f →
+issued_state : {P : Type 0} (x : Parts P) (w : Works P) (f : Facts) (m : Moment) (c : CoreParts) (task cost : ℕ) (owed : List Transaction) → x.trapped ≡ None → IsKept x.work x.facts w f →
     core_with c.debt m ≡ core_issued x.now task x.moment.interval Stay cost owed (core_with x.core.debt x.moment) →
     state_of (behind x w f (x.now + 1) m c) ≡ going_state (state_of x) task (work_in w (items_of f.tasks)) (counts_in f) (x.now + 1) owed (cost - 1)
 issued_state x w f m c task cost owed none k core =
     same_state (state_of (behind x w f (x.now + 1) m c)) (going_state (state_of x) task (work_in w (items_of f.tasks)) (counts_in f) (x.now + 1) owed (cost - 1)) refl refl refl core refl k.log none
 
 pub issues_own : {P : Type 0} (p : Setting) (holds : Bool) (x : Parts P) (w : Works P) (f : Facts) (m : Moment) (c : CoreParts) (task cost : ℕ)
-    (touches : List LineTouch) (owed : List ℕ) → IsGoing task (state_of x) →
+    (touches : List LineTouch) (owed : List Transaction) → IsGoing task (state_of x) →
     x.core.debt.cost ≡ 0 → x.trapped ≡ None → is_full (state_of x) ≡ false → GoesOn p task x.work x.facts w f touches cost → owed_by p.plant touches ≡ owed → IsKept x.work x.facts w f →
     core_with c.debt m ≡ core_issued x.now task x.moment.interval Stay cost owed (core_with x.core.debt x.moment) →
     OwnCycle (rule_in (setup_in p)) (setup_in p) holds No (state_of x) (state_of (behind x w f (x.now + 1) m c))

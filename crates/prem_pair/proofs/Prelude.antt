@@ -19,7 +19,7 @@ pub use Rattle.prem_cycle.specs.Run.{memory_of}
 unfoldable pub use Rattle.prem_cycle.specs.Run.{cycles_of}
 pub use Rattle.prem_cycle.specs.Runs.Dull.Rest.{NoneArrive, Within, core_passed, core_rest, mode_passed, mode_rest}
 pub use Rattle.prem_cycle.specs.Runs.Position.Own.{IsFree, device_of}
-pub use Rattle.prem_cycle.specs.State.{CoreState, Counts, Debt, Log, MachineState, Setup, Task, Work, no_debt, record_of, rule_in, task_in}
+pub use Rattle.prem_cycle.specs.State.{CoreState, Counts, Debt, Log, MachineState, Setup, Task, Transaction, Work, no_debt, record_of, rule_in, task_in}
 pub use Rattle.prem_cycle.specs.declared.facts.DeviceFacts.{DeviceFacts}
 pub use Rattle.prem_cycle.specs.declared.state.Mode.{Mode}
 pub use Rattle.prem_cycle.specs.declared.state.Mode.TheVariants.{Idle, Point, Running, Switching}

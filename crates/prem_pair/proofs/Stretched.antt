@@ -1,7 +1,7 @@
 -- One core that runs while the other rests.
 use Rattle.std.proofs.Common.{◌≡◌, ℕ, zero, ◌-◌, ◌≤◌, Bool, true, false, List, refl, ap, sym, ◌∙◌, arith}
 use Rattle.std.specs.Prelude.{◌&&◌, ◌||◌}
-use Rattle.prem_pair.proofs.Prelude.{not_ended, want_of, is_finished, is_finished_in, is_full, Within, Debt, Setup, MachineState, wants, No, Request, ReplacementRule, less_arrive, IsGoing}
+use Rattle.prem_pair.proofs.Prelude.{not_ended, want_of, is_finished, is_finished_in, is_full, Within, Debt, Setup, Transaction, MachineState, wants, No, Request, ReplacementRule, less_arrive, IsGoing}
 use Rattle.prem_pair.proofs.Prelude.{MayRunApart, OwnRun, PairState, both_finished, is_pair_over, one_trapped, pair_cycles, IsSteadyPair, rest_with, side_passed, stays_with, frees, is_first}
 use Rattle.prem_pair.proofs.Prelude.{is_second, want_with, MayStretch, Holder, Nobody, First, Second, Gates}
 use Rattle.prem_pair.proofs.CyclesLemmas.OneCycle.{paired}
@@ -15,7 +15,7 @@ none_taken rule other p q requests n s = let z : zero ≡ n - n = omega arith in
 
 -- ---- what holds at the start
 
-abbrev with_transactions : Debt → List ℕ → Debt
+abbrev with_transactions : Debt → List Transaction → Debt
 with_transactions d ns = record d { transactions = ns }
 
 pub going_wants : (task : ℕ) (s : MachineState) → IsGoing task s → want_of s.core.debt ≡ No

@@ -24,14 +24,14 @@ pub use Rattle.prem_cycle.specs.Cycle.{is_finished, is_finished_in, is_over, is_
 pub use Rattle.prem_cycle.specs.Cycle.{with_memory, with_now}
 pub use Rattle.prem_cycle.specs.Inputs.{IsRequest, IsTrace, no_device}
 pub use Rattle.prem_cycle.specs.Issue.{Attempt, Executes, Issued, LineTouch, Traps, attempt_behind, attempt_by, attempt_fetched, attempt_in, is_execution, issued_by, issued_with, one_if}
-pub use Rattle.prem_cycle.specs.Issue.{owed_by, owed_for, stored_in, task_after, with_store, with_touch, with_touches}
+pub use Rattle.prem_cycle.specs.Issue.{owed_by, owed_for, write_back, fill, stored_in, task_after, with_store, with_touch, with_touches}
 pub use Rattle.prem_cycle.specs.Run.{CycleStep, coming_step, memory_of, run_of, step_with}
 unfoldable pub use Rattle.prem_cycle.specs.Run.{cycles_of, steps_of}
 pub use Rattle.prem_cycle.specs.Runs.Position.Finish.{accesses_of, data_accesses, due_of, run_alone}
 pub use Rattle.prem_cycle.specs.Runs.Position.Issued.{AreOwn, IsRunOf, IsRunnable, count_of, issued_of}
 pub use Rattle.prem_cycle.specs.Runs.Position.Own.{AllOwn, IsFree, IsOwn, IsOwnOutcome, LoadsOwn, StaysOwn, device_of}
 pub use Rattle.prem_cycle.specs.Runs.Window.Windows.{CarriesInside, HaveCosts, WindowCloses, WindowsHold}
-pub use Rattle.prem_cycle.specs.State.{CoreState, Counts, Debt, MachineState, Setup, Task, Work, first_task, no_record, record_of, start_of, task_in}
+pub use Rattle.prem_cycle.specs.State.{CoreState, Counts, Debt, MachineState, Setup, Task, Transaction, Work, first_task, no_record, record_of, start_of, task_in}
 pub use Rattle.prem_cycle.specs.declared.facts.EndedInterval.{EndedInterval}
 pub use Rattle.prem_cycle.specs.declared.state.Interval.{Interval}
 pub use Rattle.prem_cycle.specs.declared.state.Mode.{Mode}

@@ -6,7 +6,7 @@ use Rattle.std.specs.Prelude.{All, is_some, ◌&&◌, ◌||◌}
 use Rattle.prem_sound.proofs.Prelude.{MoveCase, total, ArePositive, paid_is, issuing_did, MayMove, does, stands_still, turn_with, GoesOn, Schedules, Moves as Scheduled, bump, Stands}
 use Rattle.prem_sound.proofs.Prelude.{Issuing, Runs, bump_move, issuing, kept_plant, want_of, is_paid, CoreMove, Passes, Issues, is_predictable, core_issue, core_turn, Arrivals, with_memory}
 use Rattle.prem_sound.proofs.Prelude.{with_clash, joined, ends_before, ended_interval, at_point, close_interval, settle, with_now, next_cycle, ticked, is_finish, is_finished_in, is_finished}
-use Rattle.prem_sound.proofs.Prelude.{output_count, log_size, Executes, LineTouch, issued_by, owed_by, Setup, no_record, record_of, first_task, Task, Work, Debt, CoreState, Counts}
+use Rattle.prem_sound.proofs.Prelude.{output_count, log_size, Executes, LineTouch, issued_by, owed_by, Setup, no_record, record_of, first_task, Task, Transaction, Work, Debt, CoreState, Counts}
 use Rattle.prem_sound.proofs.Prelude.{MachineState, start_of, task_in, Mode, Point, Switching, Running, Idle, Turned, wants, TaskRecord, plain_fits, cost_of, TaskRun, PlainState, Did}
 use Rattle.prem_sound.proofs.Prelude.{did_of, plain_did, plain_steps, plain_run, Change, Stay, Memory, Execute, End, Job, Phase, Compatible, Execution, ReplacementRule, lines_in, OrderRule}
 use Rattle.prem_sound.proofs.Prelude.{HaveRoom, caches_after, cache_misses, IsPlant, Plant, choice_done, choice, no_task, task_at, IsDone, Finished, TaskJobs, IsPolicy, Scoping}
@@ -47,12 +47,12 @@ not_finished s h e f =
 
 pub unpaid_owes : (d : Debt) → is_paid d ≡ false → ArePositive d.transactions → 1 ≤ owed_of d
 unpaid_owes d h pos = by d.transactions d.cost refl refl where
-  by : (ts : List ℕ) (c : ℕ) → d.transactions ≡ ts → d.cost ≡ c → 1 ≤ owed_of d
+  by : (ts : List Transaction) (c : ℕ) → d.transactions ≡ ts → d.cost ≡ c → 1 ≤ owed_of d
   by [] zero e f = let x : true ≡ false = sym (paid_is d e f) ∙ h in absurd cc
   by [] (suc c) e f = omega (arith, f)
   by (t ∷ ts) c e f =
       let p : ArePositive (t ∷ ts) = subst ArePositive e pos in
-      let x : total d.transactions ≡ t + total ts = ap total e in
+      let x : total d.transactions ≡ t.cycles + total ts = ap total e in
       omega (arith, x, p.0)
 
 -- one of both

@@ -15,7 +15,7 @@ use Rattle.prem_gate.specs.Stretch.{lesser, with_transfer}
 use Rattle.prem_cycle.specs.declared.state.Interval.{Interval}
 use Rattle.prem_cycle.specs.declared.state.Mode.{Mode}
 use Rattle.prem_cycle.specs.declared.state.Mode.TheVariants.{Point, Switching, Running, Idle}
-use Rattle.prem_cycle.specs.State.{CoreState, MachineState, Setup}
+use Rattle.prem_cycle.specs.State.{CoreState, MachineState, Setup, Transaction}
 use Rattle.prem_cycle.specs.Core.{is_empty, is_paid, phase_in, want_of, with_debt}
 use Rattle.prem_cycle.specs.Cycle.{cycle_of, is_over, step_of}
 use Rattle.prem_cycle.specs.Run.{cycles_of}
@@ -23,7 +23,7 @@ use Rattle.prem_cycle.specs.Runs.Dull.Dull.{AreDull, OnlyCounts, left_in}
 use Rattle.prem_cycle.specs.Runs.Dull.Rest.{IsSteady, Within, bus_rest, core_passed, core_rest, debt_passed, idle_rest, mode_passed, mode_rest, running_rest, transactions_passed}
 use Rattle.prem_cycle.proofs.RunLaws.{step_of-goes, step_of-stays}
 use Rattle.prem_cycle.proofs.RunsLemmas.DullLemmas.Dull.{dull_rest}
-use Rattle.prem_cycle.proofs.RunsLemmas.DullLemmas.Steps.{want_passed}
+use Rattle.prem_machine.specs.Owed.{first_kind}
 use Rattle.prem_cycle.proofs.RunsLemmas.DullLemmas.Stretch.{fewer_rest, one_step}
 use Rattle.prem_wave.specs.declared.bus.Before.{Before}
 use Rattle.prem_wave.specs.declared.doing.Doing.{Doing}
@@ -52,12 +52,18 @@ record SameCore (c d : CoreState) : Type 0 where
   mark : d.mark ≡ c.mark
   window : d.window ≡ c.window
   paid : is_paid d.debt ≡ is_paid c.debt
+  kind : first_kind d.debt.transactions ≡ first_kind c.debt.transactions
   mode : shown d.mode ≡ shown c.mode
 
 same_core : (c : CoreState) → SameCore c c
-same_core c = record { interval = refl; mark = refl; window = refl; paid = refl; mode = refl }
+same_core c = record { interval = refl; mark = refl; window = refl; paid = refl; kind = refl; mode = refl }
 
-empty_passed : (m : ℕ) (begun : Bool) (ns : List ℕ) → is_empty (transactions_passed m begun ns) ≡ is_empty ns
+kind_passed : (m : ℕ) (begun : Bool) (ns : List Transaction) → first_kind (transactions_passed m begun ns) ≡ first_kind ns
+kind_passed m begun [] = refl
+kind_passed m false (n ∷ ns) = refl
+kind_passed m true (n ∷ ns) = refl
+
+empty_passed : (m : ℕ) (begun : Bool) (ns : List Transaction) → is_empty (transactions_passed m begun ns) ≡ is_empty ns
 empty_passed m begun [] = refl
 empty_passed m false (n ∷ ns) = refl
 empty_passed m true (n ∷ ns) = refl
@@ -84,6 +90,7 @@ by_mode now m n c (Switching k left) is le h =
       mark = refl;
       window = refl;
       paid = refl;
+      kind = refl;
       mode = ap (λ b. Some (cond b (Begins k) (Switches k))) (some_left m n left le h) ∙ sym (ap shown is);
     }
 by_mode now m n c (Running k) is le h =
@@ -92,6 +99,7 @@ by_mode now m n c (Running k) is le h =
       mark = refl;
       window = refl;
       paid = ap (λ b. is_empty c.debt.transactions && b) (cost_left now m n c.interval c.debt.cost c.mark le h);
+      kind = refl;
       mode = refl;
     }
 by_mode now m n c (Idle until) is le h = same_core c
@@ -104,6 +112,7 @@ by_wants now m n c true le h =
       mark = refl;
       window = refl;
       paid = ap (λ b. b && (c.debt.cost == 0)) (empty_passed m c.debt.begun c.debt.transactions);
+      kind = kind_passed m c.debt.begun c.debt.transactions;
       mode = refl;
     }
 by_wants now m n c false le h = by_mode now m n c c.mode refl le h
@@ -154,7 +163,6 @@ record Same (m : ℕ) (s u : MachineState) : Type 0 where
   work : u.work ≡ s.work
   sched : u.sched ≡ s.sched
   core : SameCore s.core u.core
-  wants : wants (want_of u.core.debt) ≡ wants (want_of s.core.debt)
   gates : SameGates s u
   transfers : u.log.transfers ≡ s.log.transfers
   intervals : u.log.intervals ≡ s.log.intervals
@@ -174,7 +182,6 @@ same rule p requests n m s le h =
       work = ap (λ (x : MachineState). x.work) is;
       sched = ap (λ (x : MachineState). x.sched) is;
       core = subst (λ (x : MachineState). SameCore s.core x.core) (sym is) (core_same s.now m n s.core le rests.core);
-      wants = ap (λ (x : MachineState). wants (want_of x.core.debt)) is ∙ ap wants (want_passed m s.core);
       gates = gates_kept rule p requests n m s le h.dull;
       transfers = ap (λ (x : MachineState). x.log.transfers) is;
       intervals = ap (λ (x : MachineState). x.log.intervals) is;
@@ -244,7 +251,7 @@ seen_same m s u h =
     let misses = h.misses in
     let backs = h.backs in
     let transfers = ap length h.transfers in
-    let want = h.wants in
+    let want = h.core.kind in
     λ i. record { misses = misses i; backs = backs i; transfers = transfers i; wants = want i }
 
 bus_same : (b : Before) (m : ℕ) (s u : MachineState) → Same m s u → bus_after b u ≡ bus_after b s

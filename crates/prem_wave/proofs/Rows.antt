@@ -2,7 +2,7 @@
 use Rattle.std.specs.Prelude.{codes}
 use Rattle.std.specs.Fmt.{digits}
 use Rattle.std.proofs.Common.{◌≡◌, ℕ, zero, suc, List, [], ◌∷◌, Option, Some, None, refl}
-use Rattle.prem_wave.specs.declared.words.TheConstants.{CORE, COMPATIBLE, DEVICE, DONE, EXECUTION, FREE, GET, MEMORY, PUT, RELEASED, SWITCH, WAIT}
+use Rattle.prem_wave.specs.declared.words.TheConstants.{CORE_BACK, CORE_FILL, COMPATIBLE, DEVICE, DONE, EXECUTION, FREE, GET, MEMORY, PUT, RELEASED, SWITCH, WAIT}
 use Rattle.prem_wave.specs.Dump.{last_of, moments_of, moments_text, told_at}
 use Rattle.prem_wave.specs.Signals.{spelled}
 
@@ -30,8 +30,11 @@ row_wait = refl
 row_free : FREE ≡ spelled (codes "free")
 row_free = refl
 
-row_core : CORE ≡ spelled (codes "core")
-row_core = refl
+row_core_fill : CORE_FILL ≡ spelled (codes "corefill")
+row_core_fill = refl
+
+row_core_back : CORE_BACK ≡ spelled (codes "coreback")
+row_core_back = refl
 
 row_device : DEVICE ≡ spelled (codes "device")
 row_device = refl

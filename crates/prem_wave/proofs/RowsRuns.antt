@@ -1,11 +1,11 @@
 -- The signals of a worked run, computed: a wrong value anywhere is refused.
-use Rattle.std.proofs.Common.{◌≡◌, ℕ, suc, List, [], ◌∷◌, Option, Some, None, refl}
+use Rattle.std.proofs.Common.{◌≡◌, ℕ, suc, List, [], ◌∷◌, Option, Some, None, map, refl}
 use Rattle.prem_gate.specs.declared.request.Request.{Request}
-use Rattle.prem_cycle.specs.State.{Setup}
+use Rattle.prem_cycle.specs.State.{MachineState, Setup}
 use Rattle.prem_cycle.specs.Run.{cycles_of}
-use Rattle.prem_cycle.proofs.Images.{alone, device, marked, put, run}
-use Rattle.prem_wave.specs.declared.words.TheConstants.{CORE, COMPATIBLE, DEVICE, EXECUTION, FREE, MEMORY, PUT, SWITCH, WAIT}
-use Rattle.prem_wave.specs.Signals.{values_of}
+use Rattle.prem_cycle.proofs.Images.{alone, device, marked, plant, put, run, task}
+use Rattle.prem_wave.specs.declared.words.TheConstants.{CORE_BACK, CORE_FILL, COMPATIBLE, DEVICE, EXECUTION, FREE, MEMORY, PUT, SWITCH, WAIT}
+use Rattle.prem_wave.specs.Signals.{before_of, bus_after, bus_word, values_of}
 
 -- one task with a device whose transfers take 40 cycles; two requests come while the marked function's lines are brought in
 abbrev setup : Setup
@@ -28,7 +28,7 @@ row_miss : shown 20 ≡ Some 0 ∷ Some 0 ∷ Some COMPATIBLE ∷ Some 0 ∷ Som
 unfolding cycles_of
 row_miss = refl
 
-row_fill : shown 21 ≡ Some 0 ∷ Some 0 ∷ Some COMPATIBLE ∷ Some 0 ∷ Some 0 ∷ Some CORE ∷ Some 0 ∷ Some 0 ∷ Some 0 ∷ None ∷ None ∷ []
+row_fill : shown 21 ≡ Some 0 ∷ Some 0 ∷ Some COMPATIBLE ∷ Some 0 ∷ Some 0 ∷ Some CORE_FILL ∷ Some 0 ∷ Some 0 ∷ Some 0 ∷ None ∷ None ∷ []
 unfolding cycles_of
 row_fill = refl
 
@@ -54,3 +54,26 @@ row_second = refl
 row_closed : shown 602 ≡ Some 0 ∷ Some 0 ∷ Some SWITCH ∷ Some 0 ∷ Some 1 ∷ Some FREE ∷ Some 0 ∷ Some 0 ∷ Some 0 ∷ None ∷ None ∷ []
 unfolding cycles_of
 row_closed = refl
+
+-- ---- two misses of one instruction
+
+-- in two sets of one line, with write backs of 7 cycles: two stores make the lines 0 and 1 dirty, and behind a jump to 32 a load from 48
+-- brings the lines 2 and 3 in their places
+abbrev replaces : List ℕ
+replaces = 0x00002623 ∷ 0x00002823 ∷ 0x0180006f ∷ 0 ∷ 0 ∷ 0 ∷ 0 ∷ 0 ∷ 0x03002283 ∷ 0x0000300b ∷ []
+
+abbrev replacing : Setup
+replacing = record { plant = record (plant 112) { sets = 2; ways = 1; back = 7; switch = 0 }; tasks = task 1000 1 0 112 ∷ []; devices = [] }
+
+-- who has the bus in a cycle
+abbrev holder : ℕ → ℕ
+holder n =
+    let s : MachineState = run replacing replaces [] n in
+    let b = before_of s in
+    bus_word (bus_after b (run replacing replaces [] (suc n))) b.wants
+
+-- the load issues in cycle 26: each line goes back before the one that takes its place comes, that of the fetch first
+row_back_and_fill : map holder (26 ∷ 27 ∷ 33 ∷ 34 ∷ 43 ∷ 44 ∷ 50 ∷ 51 ∷ 60 ∷ 61 ∷ [])
+    ≡ FREE ∷ CORE_BACK ∷ CORE_BACK ∷ CORE_FILL ∷ CORE_FILL ∷ CORE_BACK ∷ CORE_BACK ∷ CORE_FILL ∷ CORE_FILL ∷ FREE ∷ []
+unfolding cycles_of
+row_back_and_fill = refl

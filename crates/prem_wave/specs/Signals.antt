@@ -12,14 +12,17 @@ use Rattle.prem_isa.specs.declared.effect.Change.TheVariants.{Stay, Memory, Exec
 use Rattle.prem_gate.specs.declared.bus.Carried.{Carried}
 use Rattle.prem_gate.specs.declared.bus.Transfer.{Transfer}
 use Rattle.prem_gate.specs.declared.bus.Window.{Window}
-use Rattle.prem_gate.specs.Gates.{gate_at, wants}
+use Rattle.prem_gate.specs.Gates.{gate_at}
 use Rattle.prem_cycle.specs.declared.state.Mode.{Mode}
 use Rattle.prem_cycle.specs.declared.state.Mode.TheVariants.{Point, Switching, Running, Idle}
 use Rattle.prem_cycle.specs.declared.state.Interval.{Interval}
+use Rattle.prem_cycle.specs.declared.state.TransactionKind.{TransactionKind}
+use Rattle.prem_cycle.specs.declared.state.TransactionKind.TheVariants.{WriteBack, Fill}
 use Rattle.prem_cycle.specs.declared.facts.EndedInterval.{EndedInterval}
 use Rattle.prem_cycle.specs.State.{Setup, MachineState}
-use Rattle.prem_cycle.specs.Core.{is_paid, phase_in, want_of}
-use Rattle.prem_wave.specs.declared.words.TheConstants.{CORE, COMPATIBLE, DEVICE, DONE, EXECUTION, FREE, GET, MEMORY, PUT, RELEASED, SWITCH, WAIT}
+use Rattle.prem_cycle.specs.Core.{is_paid, phase_in}
+use Rattle.prem_machine.specs.Owed.{first_kind}
+use Rattle.prem_wave.specs.declared.words.TheConstants.{CORE_BACK, CORE_FILL, COMPATIBLE, DEVICE, DONE, EXECUTION, FREE, GET, MEMORY, PUT, RELEASED, SWITCH, WAIT}
 use Rattle.prem_wave.specs.declared.doing.Doing.{Doing}
 use Rattle.prem_wave.specs.declared.doing.Doing.TheVariants.{Rests, Switches, Begins, Goes}
 use Rattle.prem_wave.specs.declared.bus.OnBus.{OnBus}
@@ -138,16 +141,21 @@ before_of s =
       misses = s.log.counts.misses;
       backs = s.log.counts.writebacks;
       transfers = length s.log.transfers;
-      wants = wants (want_of s.core.debt);
+      wants = first_kind s.core.debt.transactions;
     }
 
 abbrev pub bus_after : Before → MachineState → Option OnBus
 bus_after b t = on_bus t.gates.carried (slice_get t.log.transfers b.transfers)
 
+abbrev pub core_word : TransactionKind → ℕ
+core_word WriteBack = CORE_BACK
+core_word Fill = CORE_FILL
+
 -- who has the bus: a device, the core if it wants it, or nobody
-abbrev pub bus_word : Option OnBus → Bool → ℕ
+abbrev pub bus_word : Option OnBus → Option TransactionKind → ℕ
 bus_word (Some o) wants = DEVICE
-bus_word None wants = if wants then CORE else FREE
+bus_word None (Some kind) = core_word kind
+bus_word None None = FREE
 
 -- the line that device d transfers, and how
 abbrev pub line_of : ℕ → Option OnBus → Option ℕ

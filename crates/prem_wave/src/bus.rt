@@ -1,10 +1,11 @@
 // What the bus, the cache and the devices do in a cycle, by the machine before and behind it.
 ghost use Rattle.std.specs.Prelude.{◌≡◌, ◌++◌, IfOk, OnOk, slice_get};
 ghost use Rattle.prem_machine.specs.Parts.{state_of};
-ghost use Rattle.prem_wave.specs.Signals.{before_of, bus_after, bus_word, device_values, direction_of, direction_word, each, ended_on, line_of, values_after};
+ghost use Rattle.prem_wave.specs.Signals.{before_of, bus_after, bus_word, core_word, device_values, direction_of, direction_word, each, ended_on, line_of, values_after};
 
 use crate::doing::bit;
-use crate::words::{CORE, DEVICE, FREE, GET, PUT};
+use crate::words::{CORE_BACK, CORE_FILL, DEVICE, FREE, GET, PUT};
+use prem_cycle::TransactionKind;
 use prem_gate::{Request, Transfer};
 use prem_lru::Policy;
 use prem_machine::Parts;
@@ -27,8 +28,8 @@ pub struct Before {
     pub backs: u64,
     /// The number of transfers that have ended.
     pub transfers: usize,
-    /// Whether the core wants the bus.
-    pub wants: bool,
+    /// What the core wants the bus for, if it wants it.
+    pub wants: Option<TransactionKind>,
 }
 
 /// What the machine before a cycle gives.
@@ -39,7 +40,7 @@ pub fn before_of<P: Policy>(parts: &Parts<P>) -> Before
         misses: parts.facts.misses,
         backs: parts.facts.writebacks,
         transfers: parts.facts.transfers.items().len(),
-        wants: parts.core.wants_bus(),
+        wants: parts.core.wants_bus_for(),
     }
 }
 
@@ -69,13 +70,24 @@ fn bus_after<P: Policy>(parts: &Parts<P>, before: Before) -> Option<OnBus>
     }
 }
 
+/// The word for a core that has the bus.
+fn core_word(kind: TransactionKind) -> u64
+    ensures { result ≡ core_word kind }
+{
+    match kind {
+        TransactionKind::WriteBack => CORE_BACK,
+        TransactionKind::Fill => CORE_FILL,
+    }
+}
+
 /// The word for who has the bus.
-fn bus_word(on: Option<OnBus>, wants: bool) -> u64
+fn bus_word(on: Option<OnBus>, wants: Option<TransactionKind>) -> u64
     ensures { result ≡ bus_word on wants }
 {
-    match on {
-        Some(_) => DEVICE,
-        None => { if wants { CORE } else { FREE } }
+    match (on, wants) {
+        (Some(_), _) => DEVICE,
+        (None, Some(kind)) => core_word(kind),
+        (None, None) => FREE,
     }
 }
 

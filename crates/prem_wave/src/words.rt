@@ -24,8 +24,11 @@ pub const WAIT: u64 = 0x77616974;
 /// `free`: nobody has the bus.
 pub const FREE: u64 = 0x66726565;
 
-/// `core`: the core has the bus.
-pub const CORE: u64 = 0x636f7265;
+/// `corefill`: the core has the bus, and a line comes from memory.
+pub const CORE_FILL: u64 = 0x636f726566696c6c;
+
+/// `coreback`: the core has the bus, and a dirty line goes back to memory.
+pub const CORE_BACK: u64 = 0x636f72656261636b;
 
 /// `device`: a device has the bus.
 pub const DEVICE: u64 = 0x646576696365;

@@ -2,7 +2,7 @@
 use Rattle.std.proofs.Common.{◌≡◌, ◌≢◌, ℕ, zero, suc, ◌+◌, ◌-◌, ◌≤◌, Bool, true, false, cond, List, [], Option, Some, None, refl, ap, sym, ◌∙◌, subst, arith, All}
 use Rattle.std.specs.Prelude.{◌&&◌, ◌||◌, not, is_some}
 use Rattle.prem_pair.proofs.Prelude.{CoreTurn, Issues, core_issued, core_turn, is_paid, want_of, is_finished, is_full, joined, next_cycle, with_clash, Within, Setup, Work, Counts}
-use Rattle.prem_pair.proofs.Prelude.{MachineState, Mode, Running, Trap, no_core, is_held, wants, CoreWant, No, Request, Change, Stay, ReplacementRule, unclashed, AreApart, own_cycle}
+use Rattle.prem_pair.proofs.Prelude.{MachineState, Transaction, Mode, Running, Trap, no_core, is_held, wants, CoreWant, No, Request, Change, Stay, ReplacementRule, unclashed, AreApart, own_cycle}
 use Rattle.prem_pair.proofs.Prelude.{own_part, IsGoing, MayRunApart, OwnCycle, OwnRun, no_cycle, one_more, PairState, both_finished, is_pair_over, no_arrivals, pair_cycles, pair_step}
 use Rattle.prem_pair.proofs.Prelude.{rest_with, side_passed, stays_with, wanted, asks, frees, holder_after, is_first, is_second, some_wait, want_with, Holder, Nobody, First, Second, Gates}
 use Rattle.prem_cycle.specs.Runs.Dull.Issuing.{idle_turn}
@@ -149,7 +149,7 @@ module _ (rule : ReplacementRule) (p : Setup) (holds : Bool) (s : MachineState) 
 -- ---- a core that runs
 
 -- with this work and these counts, at this time, where the task owes these cycles and transactions
-abbrev pub going_state : MachineState → (task : ℕ) → Work → Counts → (t : ℕ) → List ℕ → (cost : ℕ) → MachineState
+abbrev pub going_state : MachineState → (task : ℕ) → Work → Counts → (t : ℕ) → List Transaction → (cost : ℕ) → MachineState
 going_state s task w n t owed cost =
     record {
       now = t;
@@ -167,7 +167,7 @@ going_state s task w n t owed cost =
       trapped = None;
     }
 
-abbrev with_core : MachineState → Mode → List ℕ → Bool → Change → Option Trap → MachineState
+abbrev with_core : MachineState → Mode → List Transaction → Bool → Change → Option Trap → MachineState
 with_core s mode owed begun mark trapped =
     record s { core = record s.core { mode = mode; debt = record { transactions = owed; begun = begun; cost = s.core.debt.cost }; mark = mark }; trapped = trapped }
 
@@ -180,7 +180,7 @@ as_going task s h none =
     ∙ ap (λ o. with_core s (Running task) [] false Stay o) none
 
 -- nothing is over with its cycle
-ends_none : (s : MachineState) (task : ℕ) (w : Work) (n : Counts) (t : ℕ) (owed : List ℕ) (cost : ℕ) → next_cycle (going_state s task w n t owed cost) ≡ going_state s task w n (t + 1) owed cost
+ends_none : (s : MachineState) (task : ℕ) (w : Work) (n : Counts) (t : ℕ) (owed : List Transaction) (cost : ℕ) → next_cycle (going_state s task w n t owed cost) ≡ going_state s task w n (t + 1) owed cost
 ends_none s task w n t owed cost = rw (no_core (is_paid (record { transactions = owed; begun = false; cost = cost }))) refl
 
 pays_part : (rule : ReplacementRule) (p : Setup) (holds : Bool) (s : MachineState) (task : ℕ) (w : Work) (n : Counts) (t cost : ℕ) →
@@ -189,7 +189,7 @@ pays_part rule p true s task w n t cost = refl
 pays_part rule p false s task w n t cost = refl
 
 going_cycle : (rule : ReplacementRule) (p : Setup) (holds : Bool) (s : MachineState) (task : ℕ) (w w' : Work) (n n' : Counts) (t cost cost' : ℕ)
-    (owed : List ℕ) → is_full (going_state s task w n t [] cost) ≡ false →
+    (owed : List Transaction) → is_full (going_state s task w n t [] cost) ≡ false →
     own_part rule p holds (going_state s task w n t [] cost) ≡ going_state s task w' n' t owed cost' →
     OwnCycle rule p holds No (going_state s task w n t [] cost) (going_state s task w' n' (t + 1) owed cost')
 going_cycle rule p holds s task w w' n n' t cost cost' owed room part =
@@ -216,7 +216,7 @@ abbrev issued_to : MachineState → CoreTurn → MachineState
 issued_to s t = joined (no_arrivals s) (idle_turn s.gates s.work.memory) t s
 
 -- its next instruction goes on in its interval, and makes it owe this
-issue_part : (rule : ReplacementRule) (p : Setup) (holds : Bool) (s : MachineState) (task : ℕ) (w w' : Work) (n n' : Counts) (t cost : ℕ) (owed : List ℕ) →
+issue_part : (rule : ReplacementRule) (p : Setup) (holds : Bool) (s : MachineState) (task : ℕ) (w w' : Work) (n n' : Counts) (t cost : ℕ) (owed : List Transaction) →
     core_turn rule p t (Issues task s.core.interval) w (going_state s task w n t [] 0).core n
     ≡ record { work = w'; core = core_issued t task s.core.interval Stay cost owed (going_state s task w n t [] 0).core; counts = n'; trapped = None } →
     own_part rule p holds (going_state s task w n t [] 0) ≡ going_state s task w' n' t owed (cost - 1)
@@ -228,7 +228,7 @@ issue_part rule p false s task w w' n n' t cost owed turn =
     ap (λ k. issued_to x (core_turn rule p t (Issues task s.core.interval) w x.core k)) (sym (unclashed n)) ∙ ap (issued_to x) turn
 
 pub issue_own : (rule : ReplacementRule) (p : Setup) (holds : Bool) (s : MachineState) (task : ℕ) (w w' : Work) (n n' : Counts) (t cost : ℕ)
-    (owed : List ℕ) → is_full (going_state s task w n t [] 0) ≡ false →
+    (owed : List Transaction) → is_full (going_state s task w n t [] 0) ≡ false →
     core_turn rule p t (Issues task s.core.interval) w (going_state s task w n t [] 0).core n
     ≡ record { work = w'; core = core_issued t task s.core.interval Stay cost owed (going_state s task w n t [] 0).core; counts = n'; trapped = None } →
     OwnCycle rule p holds No (going_state s task w n t [] 0) (going_state s task w' n' (t + 1) owed (cost - 1))

@@ -1,7 +1,7 @@
 -- What an instruction adds to the counts, and what it makes the core owe.
 use Rattle.std.proofs.Common.{◌≡◌, ℕ, ◌+◌, ◌<◌, ◌≤◌, refl, ap, ◌∙◌, sym, subst, arith, cond, Some, None, Option, true, false, Bool, List, [], ◌∷◌, ◌++◌}
 use Rattle.std.specs.Prelude.{not, ◌&&◌, Result, Ok, Err, slice_index}
-use Rattle.prem_sound.proofs.Prelude.{Traps, Executes, attempt_by, attempt_fetched, attempt_in, LineTouch, owed_by, one_if, is_execution, with_touch, with_touches, with_store, Task, Counts}
+use Rattle.prem_sound.proofs.Prelude.{Traps, Executes, attempt_by, attempt_fetched, attempt_in, LineTouch, owed_by, write_back, fill, one_if, is_execution, with_touch, with_touches, with_store, Task, Counts}
 use Rattle.prem_sound.proofs.Prelude.{act_fits, fetch_fits, act, fetch, OnDone, EffectFits, AccessMatches, Fits, next_input, Access, Loads, Stores, Cause, Effect, Outcome, Trap, Done, Phase}
 use Rattle.prem_sound.proofs.Prelude.{Compatible, Execution, Stored, Instr, Plant, Target, StoresNothing}
 use Rattle.prem_isa.specs.declared.effect.Phase.TheVariants.{Memory as MemoryPhase}
@@ -28,7 +28,7 @@ pub owed_none : (plant : Plant) (ts : List LineTouch) → missed_lines ts ≡ []
 owed_none plant [] h = refl
 owed_none plant (t ∷ ts) h =
     let a : (t.hit ≡ true) × (missed_lines ts ≡ []) = all_hit t ts h in
-    ap (λ b. cond b [] (cond t.back (plant.back ∷ plant.fill ∷ []) (plant.fill ∷ [])) ++ owed_by plant ts) a.0 ∙ owed_none plant ts a.1
+    ap (λ b. cond b [] (cond t.back (write_back plant ∷ fill plant ∷ []) (fill plant ∷ [])) ++ owed_by plant ts) a.0 ∙ owed_none plant ts a.1
 
 no_exec_miss : (hit execution : Bool) → (execution ≡ true → hit ≡ true) → (not hit && execution) ≡ false
 no_exec_miss true execution h = refl

@@ -4,7 +4,7 @@ use Rattle.std.specs.Prelude.{◌&&◌, is_some}
 use Rattle.prem_sound.proofs.Prelude.{MoveCase, pays_on_bus, is_denied, pays_cost, waits, goes_on, switches, begins, chooses, chooses_now, begins_idle, has_finished, idles, issuing_did}
 use Rattle.prem_sound.proofs.Prelude.{Moves as Scheduled, bump, IsAt, Stands, Issuing, Runs, bump_move, issuing, IsKept, kept_plant, MayIssue as WindowIssue, want_of, is_paid, CoreMove}
 use Rattle.prem_sound.proofs.Prelude.{Passes, Issues, is_predictable, phase_in, window_after, CoreTurn, core_issue, core_turn, ends_before, at_point, close_interval, settle, with_now}
-use Rattle.prem_sound.proofs.Prelude.{next_cycle, ticked, Executes, issued_by, is_execution, Setup, Task, Work, CoreState, Counts, MachineState, task_in, Interval, Mode, Point, Switching}
+use Rattle.prem_sound.proofs.Prelude.{next_cycle, ticked, Executes, issued_by, is_execution, Setup, Task, Transaction, Work, CoreState, Counts, MachineState, task_in, Interval, Mode, Point, Switching}
 use Rattle.prem_sound.proofs.Prelude.{Running, Idle, wants, Window, plain_fits, cost_of, TaskRun, PlainState, Did, did_of, plain_did, plain_run, Access, Change, Stay, Memory, Execute, End}
 use Rattle.prem_sound.proofs.Prelude.{Job, Effect, Phase, Compatible, Execution, CacheState, ReplacementRule, lines_in, lines_of, OrderRule, IsPlant, Plant, TaskJobs, IsPolicy, lines_of_did}
 use Rattle.prem_sound.proofs.Prelude.{StoresNothing, Script, IsScript, and_parts, cases_Bool, cond_both, length-map}
@@ -51,7 +51,7 @@ stores_in MemoryPhase access h = h refl
 stores_in Execution access h = tt
 
 -- touches that all hit leave no transaction
-pub owes_none : (ts : List ℕ) (cost : ℕ) → ts ≡ [] → wants (want_of (record { transactions = ts; begun = false; cost = cost })) ≡ true → ⊥
+pub owes_none : (ts : List Transaction) (cost : ℕ) → ts ≡ [] → wants (want_of (record { transactions = ts; begun = false; cost = cost })) ≡ true → ⊥
 owes_none [] cost e h = let x : false ≡ true = h in cc
 owes_none (t ∷ ts) cost e h = let x : t ∷ ts ≡ [] = e in cc
 

@@ -2,7 +2,7 @@
 use Rattle.std.proofs.Common.{◌≡◌, ℕ, ◌+◌, ◌-◌, ◌*◌, ◌<◌, ◌≤◌, refl, ap, ◌∙◌, sym, subst, arith, cond, true, false, Bool, Some, None, Option, List, [], ◌∷◌, ◌++◌, length}
 use Rattle.prem_sound.proofs.Prelude.{total, LineTouch, owed_by, cost_bounds, cost_of, Did, all_append, length-caches_after, AllIn, OrderRule, caches_after, cache_misses, CacheMissesOnce}
 use Rattle.prem_sound.proofs.Prelude.{Plant, lines_with, charge_with, MissesOweLittle, line_cost, roomy_of, crowded_of, lines_of_did, add-mul, length-append, filter-append, sum_by-cons}
-use Rattle.prem_sound.proofs.Prelude.{mul-le, not, sum, filter}
+use Rattle.prem_sound.proofs.Prelude.{mul-le, not, Transaction, sum_by, filter}
 use Rattle.prem_sound.proofs.Paces.{owed_misses}
 use Rattle.prem_sound.proofs.ResidentLemmas.Touches.{missed_lines}
 use Rattle.prem_sound.proofs.ScopesLemmas.Misses.{few_roomy, few_crowded, both_parts}
@@ -110,9 +110,11 @@ module _ (order : OrderRule) (plant : Plant) where
 
 -- ---- the same for each list of touches
 
-owed_sum : (xs : List ℕ) → sum xs ≡ total xs
+owed_sum : (xs : List Transaction) → sum_by (λ (t : Transaction). t.cycles) xs ≡ total xs
 owed_sum [] = refl
-owed_sum (x ∷ xs) = let e : sum xs ≡ total xs = owed_sum xs in sum_by-cons (λ (n : ℕ). n) x xs ∙ omega (arith, e)
+owed_sum (x ∷ xs) =
+    let e : sum_by (λ (t : Transaction). t.cycles) xs ≡ total xs = owed_sum xs in
+    sum_by-cons (λ (t : Transaction). t.cycles) x xs ∙ omega (arith, e)
 
 missed_count : (ts : List LineTouch) → length (missed_lines ts) ≡ length (filter (λ (t : LineTouch). not t.hit) ts)
 missed_count [] = refl

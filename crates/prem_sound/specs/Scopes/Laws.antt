@@ -1,7 +1,8 @@
 -- What is known of scopes: how often they miss, and what they are charged.
-use Rattle.std.specs.Prelude.{◌≡◌, ℕ, ◌+◌, ◌*◌, ◌/◌, ◌<◌, ◌≤◌, not, None, List, length, filter, sum, sum_by}
+use Rattle.std.specs.Prelude.{◌≡◌, ℕ, ◌+◌, ◌*◌, ◌/◌, ◌<◌, ◌≤◌, not, None, List, length, filter, sum_by}
 use Rattle.prem_sound.specs.Prelude.{due_of, cost_of, TaskRun, Did, plain_run, AllIn, OrderRule, CacheMissesOnce, cache_misses, order_rule_of, Plant}
 use Rattle.prem_cycle.specs.Issue.{LineTouch, owed_by}
+use Rattle.prem_cycle.specs.State.{Transaction}
 use Rattle.prem_plant.specs.declared.plant.Replacement.{Replacement}
 use Rattle.prem_sound.specs.Paced.Paced.{IsPaced}
 use Rattle.prem_sound.specs.Scopes.Charged.{IsScoped, charge_with, crowd_cost, access_cost, Charges, charges_by, all_charged, IsCharged, each_alone}
@@ -24,7 +25,7 @@ KindsMissLittle =
 
 -- each touch that misses makes the core owe a fill and a write back at most, and another one nothing
 abbrev pub MissesOweLittle : Type 0
-MissesOweLittle = (plant : Plant) (touches : List LineTouch) → sum (owed_by plant touches) ≤ length (filter (λ (t : LineTouch). not t.hit) touches) * line_cost plant
+MissesOweLittle = (plant : Plant) (touches : List LineTouch) → sum_by (λ (t : Transaction). t.cycles) (owed_by plant touches) ≤ length (filter (λ (t : LineTouch). not t.hit) touches) * line_cost plant
 
 -- where each instruction is a scope by itself, it is charged what is due for it
 abbrev pub PacedRunsAreCharged : Type 0

@@ -2,7 +2,7 @@
 use Rattle.std.proofs.Common.{◌≡◌, ℕ, zero, suc, Bool, true, false, List, [], ◌∷◌, refl, ap, ◌∙◌, arith}
 use Rattle.std.specs.Prelude.{◌&&◌, ◌==◌}
 use Rattle.prem_cycle.proofs.Prelude.{is_empty, want_of, CoreMove, Issues, move_running, move_in, move_of, core_turn, Arrivals, arrivals_at, bus_at, with_memory, with_clash, move_at}
-use Rattle.prem_cycle.proofs.Prelude.{core_at, joined, ticked, cycle_of, Setup, Work, CoreState, MachineState, Turned, bus_turn, wants, No, Request, Change, Stay, Memory, Execute, End, Job}
+use Rattle.prem_cycle.proofs.Prelude.{core_at, joined, ticked, cycle_of, Setup, Transaction, Work, CoreState, MachineState, Turned, bus_turn, wants, No, Request, Change, Stay, Memory, Execute, End, Job}
 use Rattle.prem_cycle.proofs.Prelude.{ReplacementRule, TaskJobs, nat_tests}
 use Rattle.prem_cycle.proofs.RunsLemmas.DullLemmas.Stretch.{none_arrives}
 use Rattle.prem_cycle.specs.Runs.Dull.Issuing.{continues, idle_turn, IssuesAlone, issue_joined, issue_cycle}
@@ -12,7 +12,7 @@ both_true true true e = (refl, refl)
 both_true true false e = absurd (cc)
 both_true false b e = absurd (cc)
 
-wants_none : (begun : Bool) (ns : List ℕ) (cost : ℕ) → is_empty ns ≡ true → want_of (record { transactions = ns; begun = begun; cost = cost }) ≡ No
+wants_none : (begun : Bool) (ns : List Transaction) (cost : ℕ) → is_empty ns ≡ true → want_of (record { transactions = ns; begun = begun; cost = cost }) ≡ No
 wants_none begun [] cost e = refl
 wants_none begun (n ∷ ns) cost e = absurd (cc)
 

@@ -5,7 +5,7 @@ use Rattle.prem_cycle.proofs.Prelude.{is_empty, is_paid, want_of, with_cost, pai
 use Rattle.prem_cycle.proofs.Prelude.{phase_in, core_issue, core_turn, Arrivals, with_memory, with_clash, move_at, core_at, joined, settle, with_now, next_cycle, ticked, cycle_with}
 use Rattle.prem_cycle.proofs.Prelude.{close_interval, at_point, ends_before, is_finish, is_finished, is_finished_in, is_full, Attempt, Traps, Executes, attempt_behind, LineTouch, one_if}
 use Rattle.prem_cycle.proofs.Prelude.{with_touch, with_touches, with_store, issued_with, issued_by, task_after, transaction_left, switch_left, with_transaction, with_switch, OnlyCounts}
-use Rattle.prem_cycle.proofs.Prelude.{bus_rest, idle_rest, running_rest, mode_rest, core_rest, Within, IsSteady, Setup, Work, Task, Debt, CoreState, Counts, MachineState, record_of, task_in}
+use Rattle.prem_cycle.proofs.Prelude.{bus_rest, idle_rest, running_rest, mode_rest, core_rest, Within, IsSteady, Setup, Work, Task, Transaction, Debt, CoreState, Counts, MachineState, record_of, task_in}
 use Rattle.prem_cycle.proofs.Prelude.{Interval, Mode, Point, Switching, Running, Idle, Turned, wants, with_carried, transfer_left, with_transfer, StaysAbove, lesser, New, Held, Window}
 use Rattle.prem_cycle.proofs.Prelude.{Request, with_last, Access, Change, Stay, Memory, Execute, End, Job, Phase, Stored, Touched, touch_of, ReplacementRule, least_later, Before, choice}
 use Rattle.prem_cycle.proofs.Prelude.{first_ready, least_release, rest, run_or, Choice, Run, Finished, nat_tests}
@@ -195,11 +195,11 @@ interval_goes_on rule p a b c s t k m is here paid ends =
 -- ---- the core's part rests: it wants the bus
 
 -- a transaction isn't paid, and none begins
-paid_shows : (m : ℕ) (ns : List ℕ) (begun : Bool) (cost : ℕ) (q : Debt) → q ≡ paid_on_bus (m ∷ ns) (record { transactions = m ∷ ns; begun = begun; cost = cost }) → q.begun ≡ begun →
-    q.transactions ≡ with_transaction (transaction_left q.begun q.transactions) begun (m ∷ ns) → (begun ≡ true) × (1 ≤ m - 1)
-paid_shows m ns begun cost q is same left = by_last begun (nat_le m 1) refl is same left where
-  by_last : (begun x : Bool) → nat_le m 1 ≡ x → q ≡ paid_on_bus (m ∷ ns) (record { transactions = m ∷ ns; begun = begun; cost = cost }) → q.begun ≡ begun →
-      q.transactions ≡ with_transaction (transaction_left q.begun q.transactions) begun (m ∷ ns) → (begun ≡ true) × (1 ≤ m - 1)
+paid_shows : (m : Transaction) (ns : List Transaction) (begun : Bool) (cost : ℕ) (q : Debt) → q ≡ paid_on_bus (m ∷ ns) (record { transactions = m ∷ ns; begun = begun; cost = cost }) → q.begun ≡ begun →
+    q.transactions ≡ with_transaction (transaction_left q.begun q.transactions) begun (m ∷ ns) → (begun ≡ true) × (1 ≤ m.cycles - 1)
+paid_shows m ns begun cost q is same left = by_last begun (nat_le m.cycles 1) refl is same left where
+  by_last : (begun x : Bool) → nat_le m.cycles 1 ≡ x → q ≡ paid_on_bus (m ∷ ns) (record { transactions = m ∷ ns; begun = begun; cost = cost }) → q.begun ≡ begun →
+      q.transactions ≡ with_transaction (transaction_left q.begun q.transactions) begun (m ∷ ns) → (begun ≡ true) × (1 ≤ m.cycles - 1)
   by_last true true last is same left =
       let e : q.begun ≡ false = ap (λ (x : Debt). x.begun) is ∙ rw last refl in absurd (cc)
   by_last true false last is same left = (refl, grind (arith, nat_tests))
@@ -224,14 +224,14 @@ pay_mode true c = refl
 pay_mode false c = refl
 
 -- a core that wants to begin a transaction and has the bus does begin it
-pub new_shows : (begun : Bool) (ns : List ℕ) (c : CoreState) (q : Debt) → want_by begun ns ≡ New → q ≡ paid_on_bus ns (record { transactions = ns; begun = begun; cost = c.debt.cost }) →
+pub new_shows : (begun : Bool) (ns : List Transaction) (c : CoreState) (q : Debt) → want_by begun ns ≡ New → q ≡ paid_on_bus ns (record { transactions = ns; begun = begun; cost = c.debt.cost }) →
     q.begun ≡ begun → q.transactions ≡ with_transaction (transaction_left q.begun q.transactions) begun ns → ⊥
 new_shows begun [] c q new is same left = cc
 new_shows true (m ∷ ns) c q new is same left = cc
 new_shows false (m ∷ ns) c q new is same left = let e = (paid_shows m ns false c.debt.cost q is same left).0 in cc
 
 -- one that has begun goes on
-held_shows : (begun : Bool) (ns : List ℕ) (c : CoreState) (q : Debt) → (want_by begun ns ≡ Held → q ≡ paid_on_bus ns (record { transactions = ns; begun = begun; cost = c.debt.cost })) →
+held_shows : (begun : Bool) (ns : List Transaction) (c : CoreState) (q : Debt) → (want_by begun ns ≡ Held → q ≡ paid_on_bus ns (record { transactions = ns; begun = begun; cost = c.debt.cost })) →
     q.begun ≡ begun → q.transactions ≡ with_transaction (transaction_left q.begun q.transactions) begun ns → Within 1 (bus_rest begun ns)
 held_shows begun [] c q is same left = tt
 held_shows false (m ∷ ns) c q is same left = tt
@@ -334,7 +334,7 @@ mode_rests rule p requests a b s t (Switching k left) h here none d m = switch_r
 mode_rests rule p requests a b s t (Running k) h here none d m = running_rests rule p a b s t k s.core.debt.cost s.core.mark here refl refl none d.cost m
 mode_rests rule p requests a b s t (Idle until) h here none d m = idle_goes_on rule p a b s.core s t until m here here
 
-nothing_owed : (begun : Bool) (ns : List ℕ) → wants (want_by begun ns) ≡ false → is_empty ns ≡ true
+nothing_owed : (begun : Bool) (ns : List Transaction) → wants (want_by begun ns) ≡ false → is_empty ns ≡ true
 nothing_owed begun [] e = refl
 nothing_owed false (n ∷ ns) e = absurd (cc)
 nothing_owed true (n ∷ ns) e = absurd (cc)

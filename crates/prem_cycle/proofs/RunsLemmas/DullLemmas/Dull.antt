@@ -2,7 +2,7 @@
 use Rattle.std.proofs.Common.{◌≡◌, ℕ, zero, suc, ◌+◌, ◌-◌, ◌<◌, ◌≤◌, Bool, true, false, List, [], ◌∷◌, Option, Some, None, refl, ap, sym, ◌∙◌, subst, arith, length, ⊎_elim, ◌⊎◌, inl, inr}
 use Rattle.std.specs.Prelude.{is_some, nat_lt, ◌||◌, ◌&&◌}
 use Rattle.prem_cycle.proofs.Prelude.{want_of, with_cost, core_pay, Passes, Arrivals, arrivals_at, bus_at, with_now, move_at, cycle_with, OnlyCounts, IsDull, AreDull, bus_rest, idle_rest}
-use Rattle.prem_cycle.proofs.Prelude.{running_rest, mode_rest, core_rest, Within, transactions_passed, mode_passed, core_passed, passed, Rests, IsSteady, Setup, CoreState, MachineState}
+use Rattle.prem_cycle.proofs.Prelude.{running_rest, mode_rest, core_rest, Within, transactions_passed, mode_passed, core_passed, passed, Rests, IsSteady, Setup, Transaction, CoreState, MachineState}
 use Rattle.prem_cycle.proofs.Prelude.{Interval, Mode, Point, Switching, Running, Idle, carried_run, quiet_carried, held_passed, free_passed, changes_same, held_has, GatesState, Turned}
 use Rattle.prem_cycle.proofs.Prelude.{bus_turn, wants, is_held, with_carried, AreQuiet, BusRun, lesser, takes_up, is_new, has_changed, transfer_left, with_transfer, bus_run, changes}
 use Rattle.prem_cycle.proofs.Prelude.{changes_behind, Carried, CoreWant, No, New, Held, Transfer, Window, Request, with_last, Change, Stay, Memory, Execute, End, Job, ReplacementRule}
@@ -104,7 +104,7 @@ within_none : (o : Option ℕ) → Within 0 o
 within_none None = tt
 within_none (Some k) = omega arith
 
-bus_later : (n : ℕ) (begun : Bool) (ns : List ℕ) → Within 1 (bus_rest begun (transactions_passed n begun ns)) → Within n (bus_rest begun ns) → Within (suc n) (bus_rest begun ns)
+bus_later : (n : ℕ) (begun : Bool) (ns : List Transaction) → Within 1 (bus_rest begun (transactions_passed n begun ns)) → Within n (bus_rest begun ns) → Within (suc n) (bus_rest begun ns)
 bus_later n begun [] h k = tt
 bus_later n false (m ∷ ns) h k = tt
 bus_later n true (m ∷ ns) h k = omega (arith, h, k)

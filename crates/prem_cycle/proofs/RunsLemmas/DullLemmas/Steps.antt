@@ -3,7 +3,7 @@ use Rattle.std.proofs.Common.{◌≡◌, ℕ, zero, suc, ◌+◌, ◌-◌, ◌<�
 use Rattle.std.specs.Prelude.{nat_lt, nat_le, ◌&&◌, ◌==◌, if◌then◌else◌}
 use Rattle.prem_cycle.proofs.Prelude.{is_empty, want_of, paid_on_bus, with_debt, with_cost, is_paid, core_pay, Passes, begin_switch, move_running, move_in, move_of, settle, ends_before}
 use Rattle.prem_cycle.proofs.Prelude.{at_point, close_interval, bus_rest, idle_rest, running_rest, mode_rest, core_rest, Within, transactions_passed, debt_passed, mode_passed, core_passed}
-use Rattle.prem_cycle.proofs.Prelude.{Setup, Work, CoreState, MachineState, Interval, Mode, Point, Switching, Running, Idle, wants, is_held, lesser, CoreWant, No, New, Held, Change, Stay}
+use Rattle.prem_cycle.proofs.Prelude.{Setup, Transaction, shorter, Work, CoreState, MachineState, Interval, Mode, Point, Switching, Running, Idle, wants, is_held, lesser, CoreWant, No, New, Held, Change, Stay}
 use Rattle.prem_cycle.proofs.Prelude.{Memory, Execute, End, Job, TaskJobs, nat_tests}
 
 -- ---- numbers of cycles
@@ -25,10 +25,10 @@ both_within n (Some x) (Some y) p q = omega (arith, p, q)
 -- ---- what is owed
 
 -- what it wants of the bus, by what decides it
-abbrev pub want_by : Bool → List ℕ → CoreWant
+abbrev pub want_by : Bool → List Transaction → CoreWant
 want_by begun ns = if is_empty ns then No else (if begun then Held else New)
 
-pub same_want : (n : ℕ) (begun : Bool) (ns : List ℕ) → want_by begun (transactions_passed n begun ns) ≡ want_by begun ns
+pub same_want : (n : ℕ) (begun : Bool) (ns : List Transaction) → want_by begun (transactions_passed n begun ns) ≡ want_by begun ns
 same_want n begun [] = refl
 same_want n false (m ∷ ns) = refl
 same_want n true (m ∷ ns) = refl
@@ -70,15 +70,15 @@ window_passed n c = let b = wants (want_of c.debt) in ap (λ (x : CoreState). x.
 
 -- ---- the core's part of one more cycle, where it wants the bus
 
-paid_next : (n m : ℕ) (ns : List ℕ) (c : CoreState) (cost : ℕ) → suc n ≤ m - 1 →
-    paid_on_bus ((m - n) ∷ ns) (record { transactions = (m - n) ∷ ns; begun = true; cost = cost }) ≡ record { transactions = (m - suc n) ∷ ns; begun = true; cost = cost }
+paid_next : (n : ℕ) (m : Transaction) (ns : List Transaction) (c : CoreState) (cost : ℕ) → suc n ≤ m.cycles - 1 →
+    paid_on_bus (shorter n m ∷ ns) (record { transactions = shorter n m ∷ ns; begun = true; cost = cost }) ≡ record { transactions = shorter (suc n) m ∷ ns; begun = true; cost = cost }
 paid_next n m ns c cost le =
-    let more : nat_le (m - n) 1 ≡ false = grind (arith, nat_tests) in
-    let e : m - n - 1 ≡ m - suc n = omega arith in
-    rw more (ap (λ k. record { transactions = k ∷ ns; begun = true; cost = cost }) e)
+    let more : nat_le (m.cycles - n) 1 ≡ false = grind (arith, nat_tests) in
+    let e : m.cycles - n - 1 ≡ m.cycles - suc n = omega arith in
+    rw more (ap (λ k. record { transactions = record m { cycles = k } ∷ ns; begun = true; cost = cost }) e)
 
 -- the same of its parts
-bus_next : (n : ℕ) (c : CoreState) (begun had : Bool) (ns : List ℕ) → had ≡ is_held (want_by begun ns) → Within (suc n) (bus_rest begun ns) →
+bus_next : (n : ℕ) (c : CoreState) (begun had : Bool) (ns : List Transaction) → had ≡ is_held (want_by begun ns) → Within (suc n) (bus_rest begun ns) →
     core_pay had (with_debt c (record { transactions = transactions_passed n begun ns; begun = begun; cost = c.debt.cost }))
     ≡ with_debt c (record { transactions = transactions_passed (suc n) begun ns; begun = begun; cost = c.debt.cost })
 bus_next n c begun true [] e h = absurd (cc)
@@ -146,7 +146,7 @@ move_next p now n had sched w c e h =
 
 -- ---- nothing is over with it
 
-pub not_empty : (begun : Bool) (ns : List ℕ) → wants (want_by begun ns) ≡ true → is_empty ns ≡ false
+pub not_empty : (begun : Bool) (ns : List Transaction) → wants (want_by begun ns) ≡ true → is_empty ns ≡ false
 not_empty begun [] e = absurd (cc)
 not_empty begun (n ∷ ns) e = refl
 

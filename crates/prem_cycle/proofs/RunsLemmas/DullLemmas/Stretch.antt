@@ -4,7 +4,7 @@ use Rattle.std.specs.Prelude.{is_some, ◌||◌, ◌==◌, if◌then◌else◌}
 use Rattle.prem_cycle.proofs.Prelude.{want_of, with_cost, with_debt, CoreMove, Passes, core_turn, Arrivals, arrivals, arrivals_at, bus_at, with_memory, with_clash, move_at, joined, ticked}
 use Rattle.prem_cycle.proofs.Prelude.{cycle_of, is_over, is_finish, is_finished, is_finished_in, is_full, step_of, one_if, cycles_of, transaction_left, switch_left, with_transaction}
 use Rattle.prem_cycle.proofs.Prelude.{with_switch, OnlyCounts, AreDull, bus_rest, idle_rest, running_rest, mode_rest, core_rest, Within, transactions_passed, mode_passed, core_passed}
-use Rattle.prem_cycle.proofs.Prelude.{bus_passed, passed, Rests, IsSteady, Setup, Work, CoreState, Log, MachineState, Mode, Point, Switching, Running, Idle, quiet_turn, quiet_memory}
+use Rattle.prem_cycle.proofs.Prelude.{bus_passed, passed, Rests, IsSteady, Setup, Transaction, Work, CoreState, Log, MachineState, Mode, Point, Switching, Running, Idle, quiet_turn, quiet_memory}
 use Rattle.prem_cycle.proofs.Prelude.{quiet_gates, quiet_free, GatesState, Turned, bus_turn, wants, AreQuiet, OnlyGoesOn, StaysAbove, lesser, bus_run, changes, CoreWant, Transfer, Window}
 use Rattle.prem_cycle.proofs.Prelude.{Request, with_last, Change, ReplacementRule, least_none, choice_done, choice, first_ready, least_release, rest, run_or, TaskJobs, nat_tests}
 use Rattle.prem_cycle.proofs.RunLaws.{step_of-goes}
@@ -187,10 +187,10 @@ steady_later n requests s h rest =
 
 -- ---- one step
 
-pub zero_transactions : (begun : Bool) (ns : List ℕ) → transactions_passed 0 begun ns ≡ ns
+pub zero_transactions : (begun : Bool) (ns : List Transaction) → transactions_passed 0 begun ns ≡ ns
 zero_transactions begun [] = refl
 zero_transactions false (m ∷ ns) = refl
-zero_transactions true (m ∷ ns) = let e : m - 0 ≡ m = omega arith in ap (λ k. k ∷ ns) e
+zero_transactions true (m ∷ ns) = let e : m.cycles - 0 ≡ m.cycles = omega arith in ap (λ k. record m { cycles = k } ∷ ns) e
 
 pub zero_mode : (c : CoreState) (mode : Mode) → c.mode ≡ mode → mode_passed 0 c mode ≡ c
 zero_mode c Point is = refl
@@ -226,7 +226,7 @@ one_step rule p requests (suc n) s h rest =
 
 -- ---- each of them is dull
 
-same_transaction : (begun : Bool) (ns : List ℕ) → with_transaction (transaction_left begun ns) begun ns ≡ ns
+same_transaction : (begun : Bool) (ns : List Transaction) → with_transaction (transaction_left begun ns) begun ns ≡ ns
 same_transaction begun [] = refl
 same_transaction false (m ∷ ns) = refl
 same_transaction true (m ∷ ns) = refl
@@ -237,7 +237,7 @@ same_switch (Switching k left) = refl
 same_switch (Running k) = refl
 same_switch (Idle until) = refl
 
-more_transaction : (n : ℕ) (begun : Bool) (ns : List ℕ) →
+more_transaction : (n : ℕ) (begun : Bool) (ns : List Transaction) →
     with_transaction (transaction_left begun (transactions_passed (suc n) begun ns)) begun (transactions_passed n begun ns) ≡ transactions_passed (suc n) begun ns
 more_transaction n begun [] = refl
 more_transaction n false (m ∷ ns) = refl
@@ -281,7 +281,7 @@ counted_by n c true =
 counted_by n c false = counted_mode n c c.mode refl
 
 -- what is left stays above 0
-transaction_above : (n : ℕ) (begun : Bool) (ns : List ℕ) → Within (suc n) (bus_rest begun ns) →
+transaction_above : (n : ℕ) (begun : Bool) (ns : List Transaction) → Within (suc n) (bus_rest begun ns) →
     StaysAbove (transaction_left begun (transactions_passed n begun ns)) (transaction_left begun (transactions_passed (suc n) begun ns))
 transaction_above n begun [] h differs = absurd (differs refl)
 transaction_above n false (m ∷ ns) h differs = absurd (differs refl)
