@@ -1,4 +1,5 @@
 pub mod Pieces
+pub mod Calling
 pub mod Alike
 pub mod Functions
 pub mod Ends

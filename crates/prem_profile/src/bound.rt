@@ -1,6 +1,7 @@
 //! What the bound of a job is made of: its bill, item by item, on the path that counts most.
 //!
 //! - `bill`: items, and bills of these.
+//! - `calling`: whether code calls functions.
 //! - `gathering`: bills with one item for each home.
 //! - `pieces`: the bill of pieces at a place.
 //! - `scope`: that of code as one scope.
@@ -10,6 +11,7 @@
 //! - `set`: a compiled set with the bill of one job of each of its tasks.
 //! - `text`: the profile of a bill.
 mod bill;
+mod calling;
 mod gathering;
 mod laws;
 mod least;

@@ -1,5 +1,5 @@
 -- The bill of pieces at a place: the greatest weight over their paths, word by word. Of a choice it has the dearer side, and of a loop all turns.
-use Rattle.std.specs.Prelude.{ℕ, zero, suc, pos, ◌+◌, ◌*◌, nat_lt, if◌then◌else◌, List, [], ◌∷◌, ◌++◌, length, slice_index_or}
+use Rattle.std.specs.Prelude.{ℕ, zero, suc, pos, ◌+◌, ◌*◌, ◌||◌, nat_lt, Bool, true, false, if◌then◌else◌, List, [], ◌∷◌, ◌++◌, length, slice_index_or}
 use Rattle.prem_isa.specs.declared.instr.Instr.{Instr}
 use Rattle.prem_isa.specs.declared.instr.Instr.TheVariants.{Lui, Jal, OpImm}
 use Rattle.prem_isa.specs.declared.instr.AluOp.TheVariants.{Add}
@@ -47,6 +47,15 @@ bill_from c calls at (repeat turns head test body rest) =
 bill_from c calls at (call_to link part rest) = jump_item c at ∷ (calls part ++ bill_from c calls (at + 4) rest)
 
 -- ---- called parts
+
+-- whether pieces call a part
+abbrev pub has_call : Pieces → Bool
+has_call no_pieces = false
+has_call (straight code rest) = has_call rest
+has_call (address_of rd part more rest) = has_call rest
+has_call (either test taken other rest) = (has_call taken || has_call other) || has_call rest
+has_call (repeat turns head test body rest) = (has_call head || has_call body) || has_call rest
+has_call (call_to link part rest) = true
 
 abbrev pub bill_at : List Bill → ℕ → Bill
 bill_at bills n = slice_index_or bills n []

@@ -1,5 +1,5 @@
 // The bill of code as one scope, which has the lines that it brings in at its first word.
-ghost use Rattle.std.specs.Prelude.{◌≡◌, ◌+◌, ◌<◌, ◌^◌, ◌++◌, ◌∷◌, [], get_or, length, IfOk, OnOk};
+ghost use Rattle.std.specs.Prelude.{◌≡◌, ◌+◌, ◌<◌, ◌^◌, ◌++◌, ◌∷◌, [], true, get_or, length, IfOk, OnOk};
 ghost use Rattle.prem_asm.specs.Pieces.{followed, no_pieces, size_of};
 ghost use Rattle.prem_asm.specs.PiecesOf.{pieces_of};
 ghost use Rattle.prem_plant.specs.Ranges.{IsPlant};
@@ -18,6 +18,7 @@ ghost use Rattle.prem_profile.specs.Bound.Scopes.{bills_behind, function_from, l
 ghost use Rattle.prem_profile.specs.Bound.Priced.{IsPriced, bills_in, calls_by, costs_by, crowd_bill, crowd_cost};
 
 use crate::bound::bill::{Item, cycles_on, push_item};
+use crate::bound::calling::code_calls;
 use crate::bound::gathering::gather;
 use crate::bound::pieces::{Costing, Prices, push_pieces};
 use crate::cost::Cost;
@@ -77,6 +78,20 @@ fn functions_of(scene: &Scene, crowd: &Crowd) -> Result<Vec<Vec<Item>>, AllocErr
     Ok(all)
 }
 
+/// The same where code calls them, and else none.
+fn functions_for(scene: &Scene, crowd: &Crowd, calls: bool) -> Result<Vec<Vec<Item>>, AllocError>
+    requires scene { IsScene scene.now }
+    requires cache { IsCache crowd.now }
+    ensures { IfOk result (λ all. calls ≡ true → bills_in all.items ≡ bills_behind (crowd_cost crowd.now) (length scene.now.code.now) (λ part. (place_at scene.now.places.now part).0) []
+        (facts_in scene.now.facts.now scene.now.code.now)) }
+{
+    if calls {
+        functions_of(scene, crowd)
+    } else {
+        Ok(Vec::new(scene.alloc))
+    }
+}
+
 /// The bill of statements between other pieces.
 fn push_parts(
     alloc: Global,
@@ -129,7 +144,7 @@ fn crowd_bill(
     requires place { at + size_of (followed (pieces_of before.now) (followed (code_of (parts_of parts.now)) (pieces_of last.now))) < 2 ^ 32 }
     ensures { IfOk result (λ bill. bill.items ≡ crowd_bill (scene_in scene.now) crowd.now at (followed (pieces_of before.now) (followed (code_of (parts_of parts.now)) (pieces_of last.now)))) }
 {
-    let functions = functions_of(scene, crowd)?;
+    let functions = functions_for(scene, crowd, code_calls(before, parts, last))?;
     let prices = Prices {
         costing: Costing::Scope(crowd),
         count: scene.code.len() as u32,
