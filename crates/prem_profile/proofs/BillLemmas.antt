@@ -1,4 +1,5 @@
 pub mod Pieces
+pub mod Each
 pub mod Calling
 pub mod Alike
 pub mod Functions
@@ -15,3 +16,4 @@ pub mod Default
 pub mod Booked
 pub mod Told
 pub mod Slots
+pub mod Spreading

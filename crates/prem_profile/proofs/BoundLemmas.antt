@@ -1,5 +1,6 @@
 pub mod Gathered
 pub mod Sums
+pub mod Spread
 pub mod Charged
 pub mod Statements
 pub mod Passages

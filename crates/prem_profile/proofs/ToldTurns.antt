@@ -1,6 +1,6 @@
 -- Instructions that the machine tells of are turns of its run.
 use Rattle.std.specs.Prelude.{is_some, nat_lt, ◌||◌, ◌==◌}
-use Rattle.std.proofs.Common.{◌≡◌, ℕ, zero, suc, ◌+◌, ◌-◌, ◌≤◌, ◌<◌, Bool, true, false, cond, List, [], ◌∷◌, ◌++◌, drop, length, get_or, Option, Some, None, refl, ap, ap₂, sym, ◌∙◌, subst, arith, ⊎_elim}
+use Rattle.std.proofs.Common.{◌≡◌, ℕ, zero, suc, ◌+◌, ◌-◌, ◌≤◌, ◌<◌, Bool, true, false, cond, List, [], ◌∷◌, drop, length, get_or, Option, Some, None, refl, ap, ap₂, sym, ◌∙◌, subst, arith, ⊎_elim}
 use Rattle.std.proofs.lemmas.Bool.{cases_lt}
 use Rattle.std.proofs.lemmas.Bool.Decides.{nat_tests}
 use Rattle.prem_list.specs.Sequence.{items_of}
@@ -18,7 +18,7 @@ use Rattle.prem_cycle.specs.FactsOf.{stop_of, stop_trapped}
 use Rattle.prem_cycle.specs.Inputs.{image_run, setup_of}
 use Rattle.prem_cycle.specs.Run.{coming_step, cycles_of}
 use Rattle.prem_cycle.proofs.RunLaws.{cycles_of-add, step_of-stays}
-use Rattle.prem_machine.specs.Execution.{AreExecutions, IsOneExecution, IsExecution, ToldBehind, cycles_in, touched}
+use Rattle.prem_machine.specs.Execution.{AreExecutions, IsOneExecution, IsExecution, ToldBehind, cycles_in}
 use Rattle.prem_machine.specs.States.{Running, requests_in, setup_in, state_of}
 use Rattle.prem_machine.specs.declared.execution.Execution.{Execution}
 use Rattle.prem_profile.specs.declared.ahead.Ahead.{Ahead}

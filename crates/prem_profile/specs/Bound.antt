@@ -1,5 +1,6 @@
 pub mod Bills
 pub mod Pieces
+pub mod Spread
 pub mod Scopes
 pub mod Statements
 pub mod Passages

@@ -2,8 +2,9 @@
 //!
 //! - `bill`: items, and bills of these.
 //! - `calling`: whether code calls functions.
-//! - `gathering`: bills with one item for each home.
+//! - `gathering`: bills with one item for each spot.
 //! - `pieces`: the bill of pieces at a place.
+//! - `spreading`: that of a path with the items of the functions that it calls.
 //! - `scope`: that of code as one scope.
 //! - `least`: those of statements without marked calls.
 //! - `parted`: those of statements with marked calls.
@@ -19,6 +20,7 @@ mod parted;
 mod pieces;
 mod scope;
 pub mod set;
+mod spreading;
 mod task;
 pub mod text;
 

@@ -16,7 +16,7 @@ use Rattle.prem_wcet.proofs.SameRanges.{same_append, same_lines}
 use Rattle.prem_wcet.proofs.AlikeScopes.{other_scene, code_same, data_same}
 use Rattle.prem_profile.specs.Bound.Bills.{Bill, cheaper}
 use Rattle.prem_profile.specs.Bound.Pieces.{PlaceCost, bill_from, part_bill}
-use Rattle.prem_profile.specs.Bound.Scopes.{bills_behind, function_from, lines_item, own_bill, own_jump_item, scope_bill, scope_bill_with, scope_cost}
+use Rattle.prem_profile.specs.Bound.Scopes.{bills_behind, cycles_of, lines_item, own_bill, own_jump_item, path_with, scope_bill, scope_bill_with, scope_cost}
 use Rattle.prem_profile.specs.Bound.Statements.{CallBill, apart_bill, call_at, called_bill, choice_bill, head_end, inner_end, least_bill, over_place, turns_bill}
 use Rattle.prem_profile.specs.Bound.Passages.{Stubs, closed_bill, cut_bill, first_passage, marked_bill, parted_bill, passage_bill}
 
@@ -25,13 +25,13 @@ use Rattle.prem_profile.specs.Bound.Passages.{Stubs, closed_bill, cut_bill, firs
 abbrev pub pieces_behind : PlaceCost → (functions : ℕ) → (places : ℕ → ℕ) → List Bill → List Pieces → List Bill
 pieces_behind c functions places known [] = known
 pieces_behind c functions places known (ps ∷ pss) =
-    pieces_behind c functions places (known ++ function_from c functions known (places (code_part (length known))) ps ∷ []) pss
+    pieces_behind c functions places (known ++ bill_from c (part_bill functions (cycles_of known)) (places (code_part (length known))) ps ∷ []) pss
 
 pub by_pieces : (c : PlaceCost) (functions : ℕ) (places : ℕ → ℕ) (fs : List Fact) (known : List Bill) →
     bills_behind c functions places known fs ≡ pieces_behind c functions places known (map (λ (f : Fact). f.pieces) fs)
 by_pieces c functions places [] known = refl
 by_pieces c functions places (f ∷ fs) known =
-    by_pieces c functions places fs (known ++ function_from c functions known (places (code_part (length known))) f.pieces ∷ [])
+    by_pieces c functions places fs (known ++ bill_from c (part_bill functions (cycles_of known)) (places (code_part (length known))) f.pieces ∷ [])
 
 module _ (e : Scene) (parts : Parts) (plans : List Plan) (stub : ℕ → ℕ) (facts : List Fact)
     (same : (f : ℕ) → FactsAlike (fact_of e f) (fact_of (other_scene e parts plans stub facts) f)) (pieces : map (λ (f : Fact). f.pieces) e.facts ≡ map (λ (f : Fact). f.pieces) facts)
@@ -46,7 +46,7 @@ module _ (e : Scene) (parts : Parts) (plans : List Plan) (stub : ℕ → ℕ) (f
       let c : PlaceCost = scope_cost e.plant lines (list_all (is_roomy e.plant lines) held) in
       let known : bills_behind c e.functions e.places [] e.facts ≡ bills_behind c e.functions e.places [] facts =
       by_pieces c e.functions e.places e.facts [] ∙ ap (pieces_behind c e.functions e.places []) pieces ∙ sym (by_pieces c e.functions e.places facts []) in
-      ap (λ bills. lines_item e.plant at (length (roomy_lines e.plant lines)) ∷ bill_from c (part_bill e.functions bills) at s.pieces) known
+      ap (λ bills. lines_item e.plant at (length (roomy_lines e.plant lines)) ∷ path_with c e.functions bills at s.pieces) known
 
   pub scope_same : (at : ℕ) (s : Span) → scope_bill e at s ≡ scope_bill v at s
   scope_same at s =

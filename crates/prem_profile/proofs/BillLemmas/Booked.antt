@@ -5,11 +5,11 @@ use Rattle.prem_plant.specs.declared.plant.Plant.{Plant}
 use Rattle.prem_plant.specs.Ranges.{IsPlant}
 use Rattle.prem_layout.specs.Placed.{Placed}
 use Rattle.prem_profile.specs.declared.bound.bill.Item.{Item}
+use Rattle.prem_profile.specs.declared.bound.bill.Spot.{Spot}
 use Rattle.prem_profile.specs.declared.cost.Cost.{Cost}
-use Rattle.prem_profile.specs.declared.home.Home.{Home}
 use Rattle.prem_profile.specs.Spent.{no_cost, plus, where_so}
 use Rattle.prem_profile.specs.Account.{Fits, HasRoom, each_row, is_in_row, row_of, with_cost}
-use Rattle.prem_profile.specs.Bound.Bills.{Bill, total}
+use Rattle.prem_profile.specs.Bound.Bills.{Bill, home_of, total}
 use Rattle.prem_profile.specs.Bound.Booked.{bill_row, spent_on}
 use Rattle.prem_profile.specs.Bound.Profile.{AreShort, set_bill, wcets}
 use Rattle.prem_profile.specs.Bound.Small.{IsSmall}
@@ -37,13 +37,13 @@ last_total [] x = same_cost (plus x.cost no_cost) (plus no_cost x.cost) (omega a
 last_total (y ∷ bill) x =
     ap (plus y.cost) (last_total bill x) ∙ same_cost (plus y.cost (plus (total bill) x.cost)) (plus (plus y.cost (total bill)) x.cost) (omega arith) (omega arith) (omega arith) (omega arith)
 
-last_spent : (is_so : Home → Bool) (bill : Bill) (x : Item) → spent_on is_so (bill ++ x ∷ []) ≡ plus (spent_on is_so bill) (where_so (is_so x.home) x.cost)
+last_spent : (is_so : Spot → Bool) (bill : Bill) (x : Item) → spent_on is_so (bill ++ x ∷ []) ≡ plus (spent_on is_so bill) (where_so (is_so x.spot) x.cost)
 last_spent is_so [] x =
-    let c : Cost = where_so (is_so x.home) x.cost in same_cost (plus c no_cost) (plus no_cost c) (omega arith) (omega arith) (omega arith) (omega arith)
+    let c : Cost = where_so (is_so x.spot) x.cost in same_cost (plus c no_cost) (plus no_cost c) (omega arith) (omega arith) (omega arith) (omega arith)
 last_spent is_so (y ∷ bill) x =
-    let a : Cost = where_so (is_so y.home) y.cost in
+    let a : Cost = where_so (is_so y.spot) y.cost in
     let b : Cost = spent_on is_so bill in
-    let c : Cost = where_so (is_so x.home) x.cost in
+    let c : Cost = where_so (is_so x.spot) x.cost in
     ap (plus a) (last_spent is_so bill x) ∙ same_cost (plus a (plus b c)) (plus (plus a b) c) (omega arith) (omega arith) (omega arith) (omega arith)
 
 -- ---- what fits
@@ -82,9 +82,9 @@ some_below : (b : Bool) (c : Cost) → Below (where_so b c) c
 some_below true c = same_below c
 some_below false c = none_below c
 
-spent_below : (is_so : Home → Bool) (bill : Bill) → Below (spent_on is_so bill) (total bill)
+spent_below : (is_so : Spot → Bool) (bill : Bill) → Below (spent_on is_so bill) (total bill)
 spent_below is_so [] = none_below no_cost
-spent_below is_so (x ∷ bill) = both_below (where_so (is_so x.home) x.cost) x.cost (spent_on is_so bill) (total bill) (some_below (is_so x.home) x.cost) (spent_below is_so bill)
+spent_below is_so (x ∷ bill) = both_below (where_so (is_so x.spot) x.cost) x.cost (spent_on is_so bill) (total bill) (some_below (is_so x.spot) x.cost) (spent_below is_so bill)
 
 module _ (bill : Bill) (small : IsSmall bill) (n : ℕ) (x d : Item) (lt : n < length bill) (is : x ≡ get_or bill n d) where
   next_total : total (take (n + 1) bill) ≡ plus (total (take n bill)) x.cost
@@ -117,7 +117,7 @@ module _ (bill : Bill) (small : IsSmall bill) (n : ℕ) (x d : Item) (lt : n < l
   has_room tasks words rows told costs it are = record {
     total_fits = subst (λ c. Fits c x.cost) (sym it) (fits (total (take n bill)) (same_below (total (take n bill))));
     each_fits = λ row. subst (λ cs. Fits (slice_index_or cs row no_cost) x.cost) (sym are)
-        (at_row (λ c. Fits c x.cost) (bill_row tasks words (take n bill)) row 0 rows (λ i. fits (bill_row tasks words (take n bill) i) (spent_below (is_in_row tasks words i) (take n bill)))
+        (at_row (λ c. Fits c x.cost) (bill_row tasks words (take n bill)) row 0 rows (λ i. fits (bill_row tasks words (take n bill) i) (spent_below (λ s. is_in_row tasks words i (home_of s)) (take n bill)))
         (fits no_cost (none_below (total (take n bill)))));
   }
 
@@ -125,11 +125,11 @@ module _ (bill : Bill) (small : IsSmall bill) (n : ℕ) (x d : Item) (lt : n < l
   one_told told next it put = put ∙ ap (λ c. plus c x.cost) it ∙ sym next_total
 
   pub one_booked : (tasks : ℕ) (words : List ℕ) (rows : ℕ) (costs next : List Cost) → costs ≡ each_row (bill_row tasks words (take n bill)) 0 rows →
-      next ≡ with_cost costs (row_of tasks words x.home) x.cost → next ≡ each_row (bill_row tasks words (take (n + 1) bill)) 0 rows
+      next ≡ with_cost costs (row_of tasks words (home_of x.spot)) x.cost → next ≡ each_row (bill_row tasks words (take (n + 1) bill)) 0 rows
   one_booked tasks words rows costs next are put =
-      put ∙ ap (λ cs. with_cost cs (row_of tasks words x.home) x.cost) are
-      ∙ with_row (bill_row tasks words (take n bill)) (bill_row tasks words (take (n + 1) bill)) (row_of tasks words x.home) rows x.cost
-      (λ i. ap (spent_on (is_in_row tasks words i)) (taken_more bill n x d lt is) ∙ last_spent (is_in_row tasks words i) (take n bill) x)
+      put ∙ ap (λ cs. with_cost cs (row_of tasks words (home_of x.spot)) x.cost) are
+      ∙ with_row (bill_row tasks words (take n bill)) (bill_row tasks words (take (n + 1) bill)) (row_of tasks words (home_of x.spot)) rows x.cost
+      (λ i. ap (spent_on (λ s. is_in_row tasks words i (home_of s))) (taken_more bill n x d lt is) ∙ last_spent (λ s. is_in_row tasks words i (home_of s)) (take n bill) x)
 
 -- ---- the bill of a set
 

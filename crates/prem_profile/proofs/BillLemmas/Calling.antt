@@ -1,6 +1,6 @@
 -- Code that calls no function has the same bill whatever functions are billed.
 use Rattle.std.specs.Prelude.{◌||◌, pos}
-use Rattle.std.proofs.Common.{◌≡◌, ℕ, ◌+◌, ◌*◌, ◌<◌, Bool, true, false, List, [], ◌∷◌, ◌++◌, get_or, length, drop, refl, ap, sym, ◌∙◌}
+use Rattle.std.proofs.Common.{◌≡◌, ℕ, zero, suc, ◌+◌, ◌*◌, ◌<◌, Bool, true, false, List, [], ◌∷◌, ◌++◌, get_or, length, drop, refl, ap, sym, ◌∙◌, arith}
 use Rattle.prem_isa.specs.declared.instr.Instr.TheVariants.{Lui, OpImm}
 use Rattle.prem_isa.specs.declared.instr.AluOp.TheVariants.{Add}
 use Rattle.prem_asm.specs.declared.piece.Piece.{Piece}
@@ -8,8 +8,14 @@ use Rattle.prem_asm.specs.Pieces.{Pieces, no_pieces, straight, address_of, eithe
 use Rattle.prem_asm.specs.PiecesOf.{piece_of, pieces_of}
 use Rattle.prem_asm.proofs.PieceWords.{drop_piece}
 use Rattle.prem_asm.proofs.Rows.{piece_before-followed}
-use Rattle.prem_profile.specs.Bound.Bills.{Bill, bill_times, dearer}
-use Rattle.prem_profile.specs.Bound.Pieces.{PlaceCost, bill_from, has_call, item, jump_item, part_bill, straight_bill}
+use Rattle.prem_profile.specs.declared.bound.bill.Item.{Item}
+use Rattle.prem_profile.specs.declared.bound.bill.Spot.{Spot}
+use Rattle.prem_profile.specs.declared.bound.bill.Spot.TheVariants.{Switch, At, Call}
+use Rattle.prem_profile.specs.Bound.Bills.{Bill, bill_times, dearer, is_call}
+use Rattle.prem_profile.specs.Bound.Pieces.{PlaceCost, bill_at, bill_from, has_call, item, jump_item, part_bill, straight_bill}
+use Rattle.prem_profile.specs.Bound.Scopes.{cycles_of, path_with}
+use Rattle.prem_profile.specs.Bound.Spread.{calls_on, items_often, spot_calls, spread, spread_path}
+use Rattle.prem_profile.proofs.BillLemmas.Each.{AreAll, pieces_all, timed}
 
 neither : (a b : Bool) → (a || b) ≡ false → (a ≡ false) × (b ≡ false)
 neither true b h = absurd (cc)
@@ -61,7 +67,46 @@ module _ (c : PlaceCost) (f g : ℕ → Bill) where
       ++ ((first i ++ item c (test_at at head) (branch_of test) ∷ jump_item c (test_at at head + 4) ∷ []) ++ behind i)
   uncalled at (call_to link part rest) h = absurd (cc)
 
-pub called_as : (c : PlaceCost) (functions : ℕ) (known all : List Bill) (at : ℕ) (ps : Pieces) (calls : Bool) → calls ≡ has_call ps → (calls ≡ true → known ≡ all) →
-    bill_from c (part_bill functions known) at ps ≡ bill_from c (part_bill functions all) at ps
-called_as c functions known all at ps true is same = ap (λ bs. bill_from c (part_bill functions bs) at ps) (same refl)
-called_as c functions known all at ps false is same = uncalled c (part_bill functions known) (part_bill functions all) at ps (sym is)
+-- ---- paths that call nothing
+
+abbrev silent : Item → Type 0
+silent x = is_call x.spot ≡ false
+
+timed_silent : (n : ℕ) (x : Item) → silent x → silent (timed n x)
+timed_silent n x e = e
+
+quiet : (s : Spot) (n f : ℕ) → is_call s ≡ false → spot_calls s n f ≡ 0
+quiet (Switch k) n f e = refl
+quiet (At pc) n f e = refl
+quiet (Call g) n f e = absurd (cc)
+
+uncalling : (bill : Bill) → AreAll silent bill → (f : ℕ) → calls_on bill f ≡ 0
+uncalling [] h f = refl
+uncalling (x ∷ bill) h f = λ i. quiet x.spot x.cost.instructions f h.0 i + uncalling bill h.1 f i
+
+none_more : (k : ℕ) → 0 + 0 * k ≡ 0
+none_more k = omega arith
+
+spread_none : (bills : List Bill) (n : ℕ) (often : ℕ → ℕ) → ((f : ℕ) → often f ≡ 0) → spread bills n often ≡ []
+spread_none bills zero often e = refl
+spread_none bills (suc n) often e =
+    let b : Bill = bill_at bills n in
+    λ i. items_often (e n i) b ++ spread_none bills n (λ f. often f + often n * calls_on b f) (λ f. (λ j. e f j + e n j * calls_on b f) ∙ none_more (calls_on b f)) i
+
+module _ (c : PlaceCost) (functions at : ℕ) (ps : Pieces) where
+  abbrev bare : Bill
+  bare = bill_from c (λ part. []) at ps
+
+  bare_silent : AreAll silent bare
+  bare_silent = pieces_all silent timed_silent c (λ at i. refl) (λ part. []) (λ part. tt) at ps
+
+  -- such a path stays what it is, whatever functions there are
+  bare_path : (bills : List Bill) (cycles : List ℕ) → has_call ps ≡ false → spread_path bills (bill_from c (part_bill functions cycles) at ps) ≡ items_often 1 bare ++ []
+  bare_path bills cycles none =
+      ap (spread_path bills) (uncalled c (part_bill functions cycles) (λ part. []) at ps none)
+      ∙ ap (λ rest. items_often 1 bare ++ rest) (spread_none bills (length bills) (calls_on bare) (uncalling bare bare_silent))
+
+  pub called_as : (known all : List Bill) (cycles : List ℕ) (calls : Bool) → calls ≡ has_call ps → cycles ≡ cycles_of known → (calls ≡ true → known ≡ all) →
+      spread_path known (bill_from c (part_bill functions cycles) at ps) ≡ path_with c functions all at ps
+  called_as known all cycles true is told same = ap (λ ns. spread_path known (bill_from c (part_bill functions ns) at ps)) told ∙ ap (λ bs. path_with c functions bs at ps) (same refl)
+  called_as known all cycles false is told same = bare_path known cycles (sym is) ∙ sym (bare_path all (cycles_of all) (sym is))

@@ -1,6 +1,6 @@
--- Bills have no more instructions, lines that are brought in and lines that are written back than cycles.
-use Rattle.std.specs.Prelude.{nat_le, nat_lt}
-use Rattle.std.proofs.Common.{ℕ, zero, suc, pos, ◌+◌, ◌*◌, ◌≤◌, ◌<◌, ◌^◌, Bool, true, false, cond, List, [], ◌∷◌, ◌++◌, length, arith}
+-- Bills have no more instructions, lines that are brought in and lines that are written back than cycles, and no item that stands for a function.
+use Rattle.std.specs.Prelude.{nat_le}
+use Rattle.std.proofs.Common.{◌≡◌, ℕ, zero, suc, pos, ◌+◌, ◌*◌, ◌≤◌, ◌<◌, ◌^◌, Bool, true, false, cond, List, [], ◌∷◌, ◌++◌, length, refl, arith}
 use Rattle.std.proofs.Math.Nat.{le-mul_of_pos_right, mul-le-mul_left}
 use Rattle.std.specs.List.{list_all}
 use Rattle.prem_plant.specs.declared.plant.Plant.{Plant}
@@ -9,14 +9,13 @@ use Rattle.prem_isa.specs.declared.instr.Instr.{Instr}
 use Rattle.prem_isa.specs.declared.instr.Instr.TheVariants.{Lui, Auipc, Jal, Jalr, Branch, Load, Store, OpImm, Op, MulDiv, Fence, Ecall, Ebreak, PmMem, PmExec, PmEnd, PmDone, PmIn, PmOut}
 use Rattle.prem_isa.specs.declared.instr.MulDivOp.TheVariants.{Mul, Div, Divu, Rem, Remu}
 use Rattle.prem_isa.specs.Decode.{cost_of}
-use Rattle.prem_asm.specs.Pieces.{Pieces, no_pieces, straight, address_of, either, repeat, call_to, branch_of, skip_words, skip_at, other_at, either_end, test_at, back_at, repeat_end, size_of}
+use Rattle.prem_asm.specs.Pieces.{Pieces, branch_of, size_of}
 use Rattle.prem_syntax.specs.Resolved.{Routine, Resolved}
 use Rattle.prem_layout.specs.Bounds.{line_cost}
 use Rattle.prem_layout.specs.Footprint.{TaskPlaces, lines_of}
 use Rattle.prem_layout.specs.Template.Frames.{locals_of}
 use Rattle.prem_layout.specs.Template.Terms.{nonzero}
 use Rattle.prem_wcet.specs.Outlined.{outline_of}
-use Rattle.prem_isa.specs.declared.instr.AluOp.TheVariants.{Add}
 use Rattle.prem_layout.specs.Parts.{code_part, start_part}
 use Rattle.prem_layout.specs.Placed.{Placed}
 use Rattle.prem_layout.specs.Plans.{Plan}
@@ -26,33 +25,34 @@ use Rattle.prem_wcet_laws.specs.Scopes.{Fact, Scene, Span, code_ranges, data_lin
 use Rattle.prem_wcet_laws.specs.Wcet.{at_function, fact_at, known_scene, scene_of, stack_of, start_span}
 use Rattle.prem_wcet.specs.Outlines.{Outline, ended, plain, calling, choice, turning, between, code_of, coded_span, data_between, cut_in, first_place, front_in, edge_in, inner_place, landing_in, second_place, span_in}
 use Rattle.prem_profile.specs.declared.cost.Cost.{Cost}
-use Rattle.prem_profile.specs.declared.home.Home.{Home}
-use Rattle.prem_profile.specs.declared.home.Home.TheVariants.{At, Switch}
 use Rattle.prem_profile.specs.declared.bound.bill.Item.{Item}
-use Rattle.prem_profile.specs.Bound.Bills.{Bill, bill_times, cheaper, cycles_on, dearer, gathered, is_one, spent_at, told_plus, total, with_bill, with_item}
+use Rattle.prem_profile.specs.declared.bound.bill.Spot.{Spot}
+use Rattle.prem_profile.specs.declared.bound.bill.Spot.TheVariants.{At, Switch}
+use Rattle.prem_profile.specs.Bound.Bills.{Bill, bill_times, cheaper, cycles_on, dearer, gathered, is_call, is_one, spent_at, told_plus, total, with_bill, with_item}
 use Rattle.prem_profile.specs.Bound.Booked.{bills_from}
 use Rattle.prem_profile.specs.Bound.Passages.{Stubs, closed_bill, cut_bill, cycles_item, first_passage, marked_bill, parted_bill, passage_bill}
-use Rattle.prem_profile.specs.Bound.Pieces.{PlaceCost, bill_at, bill_from, instruction_cost, item, jump_item, part_bill, straight_bill}
-use Rattle.prem_profile.specs.Bound.Profile.{joined}
-use Rattle.prem_profile.specs.Bound.Scopes.{bills_behind, function_from, lines_item, own_bill, own_jump_item, own_test_item, rule_cost, rule_misses, scope_bill, scope_bill_with, scope_cost, scope_misses}
+use Rattle.prem_profile.specs.Bound.Pieces.{PlaceCost, bill_at, bill_from, call_items, instruction_cost, item, part_bill}
+use Rattle.prem_profile.specs.Bound.Profile.{AreTold, joined}
+use Rattle.prem_profile.specs.Bound.Scopes.{bills_behind, cycles_of, lines_item, own_bill, own_jump_item, own_test_item, rule_cost, rule_misses, scope_bill, scope_bill_with, scope_cost, scope_misses}
 use Rattle.prem_profile.specs.Bound.Small.{IsSmall}
+use Rattle.prem_profile.specs.Bound.Spread.{calls_on, item_told, items_often, spread, without_calls}
 use Rattle.prem_profile.specs.Bound.Statements.{CallBill, apart_bill, call_at, called_bill, choice_bill, head_end, inner_end, least_bill, over_place, turns_bill}
 use Rattle.prem_profile.specs.Bound.Tasks.{bills_of, body_begin, body_end, function_bill, job_bill, start_bill, stubs_of, task_bill}
+use Rattle.prem_profile.proofs.BillLemmas.Each.{AllOf, AreAll, all_append, all_at, all_dearer, all_one, all_times, known_all, none_all, path_all, pieces_all, timed}
 
-pub record IsLean (c : Cost) : Type 0 where
-  pub instructions : c.instructions ≤ c.cycles
-  pub misses : c.misses ≤ c.cycles
-  pub backs : c.backs ≤ c.cycles
+pub record IsLean (x : Item) : Type 0 where
+  pub instructions : x.cost.instructions ≤ x.cost.cycles
+  pub misses : x.cost.misses ≤ x.cost.cycles
+  pub backs : x.cost.backs ≤ x.cost.cycles
+  pub told : is_call x.spot ≡ false
 
 abbrev pub AreLean : Bill → Type 0
-AreLean [] = Unit {0}
-AreLean (x ∷ xs) = IsLean x.cost × AreLean xs
+AreLean bill = AreAll IsLean bill
 
 -- ---- bills of bills
 
 pub lean_append : (a b : Bill) → AreLean a → AreLean b → AreLean (a ++ b)
-lean_append [] b f g = g
-lean_append (x ∷ a) b f g = (f.0, lean_append a b f.1 g)
+lean_append a b f g = all_append IsLean a b f g
 
 times_more : (n a b : ℕ) → a ≤ b → n * a ≤ n * b
 times_more n a b le = mul-le-mul_left n le
@@ -60,30 +60,32 @@ times_more n a b le = mul-le-mul_left n le
 clipped_more : (a b : ℕ) → a ≤ b → clipped a ≤ clipped b
 clipped_more a b le = omega (arith, le)
 
+lean_timed : (n : ℕ) (x : Item) → IsLean x → IsLean (timed n x)
+lean_timed n x f =
+    let c : Cost = x.cost in
+    record {
+      instructions = clipped_more (n * c.instructions) (n * c.cycles) (times_more n c.instructions c.cycles f.instructions);
+      misses = clipped_more (n * c.misses) (n * c.cycles) (times_more n c.misses c.cycles f.misses);
+      backs = clipped_more (n * c.backs) (n * c.cycles) (times_more n c.backs c.cycles f.backs);
+      told = f.told;
+    }
+
 pub lean_times : (n : ℕ) (a : Bill) → AreLean a → AreLean (bill_times n a)
-lean_times n [] f = tt
-lean_times n (x ∷ a) f =
-    let c : Cost = x.cost in (
-      record {
-        instructions = clipped_more (n * c.instructions) (n * c.cycles) (times_more n c.instructions c.cycles f.0.instructions);
-        misses = clipped_more (n * c.misses) (n * c.cycles) (times_more n c.misses c.cycles f.0.misses);
-        backs = clipped_more (n * c.backs) (n * c.cycles) (times_more n c.backs c.cycles f.0.backs);
-      },
-      lean_times n a f.1,
-    )
+lean_times n a f = all_times IsLean lean_timed n a f
 
 one_of : (t : Bool) (a b : Bill) → AreLean a → AreLean b → AreLean (cond t a b)
-one_of true a b f g = f
-one_of false a b f g = g
+one_of t a b f g = all_one IsLean t a b f g
 
 pub lean_dearer : (a b : Bill) → AreLean a → AreLean b → AreLean (dearer a b)
-lean_dearer a b f g = one_of (nat_lt (clipped (cycles_on a)) (clipped (cycles_on b))) b a g f
+lean_dearer a b f g = all_dearer IsLean a b f g
 
 pub lean_cheaper : (a b : Bill) → AreLean a → AreLean b → AreLean (cheaper a b)
 lean_cheaper a b f g = one_of (nat_le (clipped (cycles_on a)) (clipped (cycles_on b))) a b f g
 
-lean_told : (a b : Cost) → IsLean a → IsLean b → IsLean (told_plus a b)
-lean_told a b f g =
+lean_both : (x y : Item) → IsLean x → IsLean y → IsLean (spent_at x.spot (told_plus x.cost y.cost))
+lean_both x y f g =
+    let a : Cost = x.cost in
+    let b : Cost = y.cost in
     let i = f.instructions in
     let i' = g.instructions in
     let m = f.misses in
@@ -94,12 +96,13 @@ lean_told a b f g =
       instructions = clipped_more (a.instructions + b.instructions) (a.cycles + b.cycles) (omega (arith, i, i'));
       misses = clipped_more (a.misses + b.misses) (a.cycles + b.cycles) (omega (arith, m, m'));
       backs = clipped_more (a.backs + b.backs) (a.cycles + b.cycles) (omega (arith, k, k'));
+      told = f.told;
     }
 
-lean_item : (a : Bill) (x : Item) → AreLean a → IsLean x.cost → AreLean (with_item a x)
+lean_item : (a : Bill) (x : Item) → AreLean a → IsLean x → AreLean (with_item a x)
 lean_item [] x f g = (g, tt)
 lean_item (y ∷ a) x f g =
-    one_of (is_one y.home x.home) (spent_at y.home (told_plus y.cost x.cost) ∷ a) (y ∷ with_item a x) (lean_told y.cost x.cost f.0 g, f.1) (f.0, lean_item a x f.1 g)
+    one_of (is_one y.spot x.spot) (spent_at y.spot (told_plus y.cost x.cost) ∷ a) (y ∷ with_item a x) (lean_both y x f.0 g, f.1) (f.0, lean_item a x f.1 g)
 
 lean_with : (a b : Bill) → AreLean a → AreLean b → AreLean (with_bill a b)
 lean_with a [] f g = f
@@ -135,97 +138,74 @@ some_cost PmDone = omega arith
 some_cost (PmIn a) = omega arith
 some_cost (PmOut a) = omega arith
 
-instruction_lean : (miss lines : ℕ) (i : Instr) → 0 < miss → IsLean (instruction_cost miss lines i)
-instruction_lean miss lines i some =
+instruction_lean : (at miss lines : ℕ) (i : Instr) → 0 < miss → IsLean (spent_at (At at) (instruction_cost miss lines i))
+instruction_lean at miss lines i some =
     let one = some_cost i in
     let enough = le-mul_of_pos_right {m = miss} lines some in
-    record { instructions = omega (arith, one); misses = omega (arith, enough); backs = omega (arith, enough) }
+    record { instructions = omega (arith, one); misses = omega (arith, enough); backs = omega (arith, enough); told = refl }
 
--- bills of functions
-abbrev pub AllLean : List Bill → Type 0
-AllLean [] = Unit {0}
-AllLean (b ∷ bs) = AreLean b × AllLean bs
+-- ---- paths, where calls stand for functions
 
-lean_at : (bs : List Bill) → AllLean bs → (n : ℕ) → AreLean (bill_at bs n)
-lean_at [] h zero = tt
-lean_at [] h (suc n) = tt
-lean_at (b ∷ bs) h zero = h.0
-lean_at (b ∷ bs) h (suc n) = lean_at bs h.1 n
+abbrev IsLeanTold : Item → Type 0
+IsLeanTold x = is_call x.spot ≡ false → IsLean x
 
-lean_more : (bs : List Bill) (b : Bill) → AllLean bs → AreLean b → AllLean (bs ++ b ∷ [])
-lean_more [] b h one = (one, tt)
-lean_more (c ∷ bs) b h one = (h.0, lean_more bs b h.1 one)
+true_false : true ≡ false → ⊥
+true_false e = cc
 
-part_lean : (functions : ℕ) (bills : List Bill) → AllLean bills → (part : ℕ) → AreLean (part_bill functions bills part)
-part_lean functions bills h zero = tt
-part_lean functions bills h (suc n) = one_of (nat_lt n functions) (bill_at bills n) [] (lean_at bills h n) tt
+call_lean : (f n : ℕ) → AreAll IsLeanTold (call_items f n)
+call_lean f zero = tt
+call_lean f (suc n) = (λ e. absurd (true_false e), tt)
 
-module _ (c : PlaceCost) (each : (at : ℕ) (i : Instr) → IsLean (c at i)) where
-  straight_lean : (at : ℕ) (code : List Instr) → AreLean (straight_bill c at code)
-  straight_lean at [] = tt
-  straight_lean at (i ∷ is) = (each at i, straight_lean (at + 4) is)
+told_lean : (x : Item) → IsLeanTold x → AreLean (item_told x)
+told_lean x f = by (is_call x.spot) refl where
+  by : (t : Bool) → is_call x.spot ≡ t → AreLean (cond t [] (x ∷ []))
+  by true e = tt
+  by false e = (f e, tt)
 
-  module _ (bills : ℕ → Bill) (called : (part : ℕ) → AreLean (bills part)) where
-    pub pieces_lean : (at : ℕ) (ps : Pieces) → AreLean (bill_from c bills at ps)
-    pieces_lean at no_pieces = tt
-    pieces_lean at (straight code rest) = lean_append (straight_bill c at code) _ (straight_lean at code) (pieces_lean (at + 4 * length code) rest)
-    pieces_lean at (address_of rd part more rest) = (each at (Lui 0 0), (each (at + 4) (OpImm Add 0 0 (pos 0)), pieces_lean (at + 8) rest))
-    pieces_lean at (either test taken other rest) =
-        let first : Bill = bill_from c bills (at + 8) taken ++ bill_times (skip_words other) (jump_item c (skip_at at taken) ∷ []) in
-        let second : Bill = jump_item c (at + 4) ∷ bill_from c bills (other_at at taken other) other in (
-          each at (branch_of test),
-          lean_append (dearer first second) _
-              (lean_dearer first second
-              (lean_append (bill_from c bills (at + 8) taken) _ (pieces_lean (at + 8) taken) (lean_times (skip_words other) (jump_item c (skip_at at taken) ∷ []) (each (skip_at at taken) (Jal 0 (pos 0)), tt)))
-              (each (at + 4) (Jal 0 (pos 0)), pieces_lean (other_at at taken other) other))
-              (pieces_lean (either_end at taken other) rest),
-        )
-    pieces_lean at (repeat turns head test body rest) =
-        let there : ℕ = test_at at head in
-        let back : ℕ = back_at at head body in
-        let turn : Bill = bill_from c bills at head ++ (item c there (branch_of test) ∷ (bill_from c bills (there + 8) body ++ jump_item c back ∷ [])) in
-        let out : Bill = bill_from c bills at head ++ item c there (branch_of test) ∷ jump_item c (there + 4) ∷ [] in
-        lean_append (bill_times turns turn) _
-        (lean_times turns turn
-        (lean_append (bill_from c bills at head) _ (pieces_lean at head)
-        (each there (branch_of test), lean_append (bill_from c bills (there + 8) body) _ (pieces_lean (there + 8) body) (each back (Jal 0 (pos 0)), tt))))
-        (lean_append out _ (lean_append (bill_from c bills at head) _ (pieces_lean at head) (each there (branch_of test), (each (there + 4) (Jal 0 (pos 0)), tt))) (pieces_lean (repeat_end at head body) rest))
-    pieces_lean at (call_to link part rest) = (each at (Jal 0 (pos 0)), lean_append (bills part) _ (called part) (pieces_lean (at + 4) rest))
+without_lean : (bill : Bill) → AreAll IsLeanTold bill → AreLean (without_calls bill)
+without_lean [] f = tt
+without_lean (x ∷ bill) f = lean_append (item_told x) _ (told_lean x f.0) (without_lean bill f.1)
 
-  known_lean : (functions : ℕ) (places : ℕ → ℕ) (known : List Bill) (fs : List Fact) → AllLean known → AllLean (bills_behind c functions places known fs)
-  known_lean functions places known [] h = h
-  known_lean functions places known (f ∷ fs) h =
-      let here : Bill = bill_from c (part_bill functions known) (places (code_part (length known))) f.pieces in
-      let next : Bill = function_from c functions known (places (code_part (length known))) f.pieces in
-      known_lean functions places (known ++ next ∷ []) fs
-      (lean_more known next h (lean_gathered here (pieces_lean (part_bill functions known) (part_lean functions known h) (places (code_part (length known))) f.pieces)))
+often_lean : (n : ℕ) (bill : Bill) → AreAll IsLeanTold bill → AreLean (items_often n bill)
+often_lean zero bill f = tt
+often_lean (suc n) bill f = lean_times (suc n) (without_calls bill) (without_lean bill f)
+
+spread_lean : (bills : List Bill) → AllOf IsLeanTold bills → (n : ℕ) (often : ℕ → ℕ) → AreLean (spread bills n often)
+spread_lean bills h zero often = tt
+spread_lean bills h (suc n) often =
+    lean_append (items_often (often n) (bill_at bills n)) _ (often_lean (often n) (bill_at bills n) (all_at IsLeanTold bills h n))
+    (spread_lean bills h n (λ f. often f + often n * calls_on (bill_at bills n) f))
 
 -- ---- scopes
 
 module _ (e : Scene) (some : 0 < line_cost e.plant) where
-  rule_lean : (at : ℕ) (i : Instr) → IsLean (rule_cost e.plant at i)
-  rule_lean at i = instruction_lean (line_cost e.plant) (rule_misses i) i some
+  rule_lean : (at : ℕ) (i : Instr) → IsLean (item (rule_cost e.plant) at i)
+  rule_lean at i = instruction_lean at (line_cost e.plant) (rule_misses i) i some
 
   own_lean : (at : ℕ) (ps : Pieces) → AreLean (own_bill e at ps)
-  own_lean at ps = pieces_lean (rule_cost e.plant) rule_lean (part_bill 0 []) (part_lean 0 [] tt) at ps
+  own_lean at ps = pieces_all IsLean lean_timed (rule_cost e.plant) rule_lean (part_bill 0 []) (none_all IsLean) at ps
 
-  jump_lean : (at : ℕ) → IsLean (own_jump_item e at).cost
+  jump_lean : (at : ℕ) → IsLean (own_jump_item e at)
   jump_lean at = rule_lean at (Jal 0 (pos 0))
 
-  test_lean : (at : ℕ) → IsLean (own_test_item e at).cost
+  test_lean : (at : ℕ) → IsLean (own_test_item e at)
   test_lean at = rule_lean at (branch_of (nonzero 10))
 
-  lines_lean : (at lines : ℕ) → IsLean (lines_item e.plant at lines).cost
-  lines_lean at lines = let enough = le-mul_of_pos_right {m = line_cost e.plant} lines some in record { instructions = omega arith; misses = omega (arith, enough); backs = omega (arith, enough) }
+  lines_lean : (at lines : ℕ) → IsLean (lines_item e.plant at lines)
+  lines_lean at lines =
+      let enough = le-mul_of_pos_right {m = line_cost e.plant} lines some in record { instructions = omega arith; misses = omega (arith, enough); backs = omega (arith, enough); told = refl }
 
   scope_lean_with : (at : ℕ) (s : Span) (lines held : List ℕ) → AreLean (scope_bill_with e at s lines held)
   scope_lean_with at s lines held =
       let roomy : Bool = list_all (is_roomy e.plant lines) held in
       let c : PlaceCost = scope_cost e.plant lines roomy in
-      let each : (at : ℕ) (i : Instr) → IsLean (c at i) = λ at i. instruction_lean (line_cost e.plant) (scope_misses e.plant lines roomy at i) i some in (
+      let each : (at : ℕ) (i : Instr) → IsLeanTold (item c at i) = λ at i told. instruction_lean at (line_cost e.plant) (scope_misses e.plant lines roomy at i) i some in
+      let more : (n : ℕ) (x : Item) → IsLeanTold x → IsLeanTold (timed n x) = λ n x f told. lean_timed n x (f told) in
+      let bills : List Bill = bills_behind c e.functions e.places [] e.facts in
+      let path : Bill = bill_from c (part_bill e.functions (cycles_of bills)) at s.pieces in (
         lines_lean at (length (roomy_lines e.plant lines)),
-        pieces_lean c each (part_bill e.functions (bills_behind c e.functions e.places [] e.facts))
-            (part_lean e.functions (bills_behind c e.functions e.places [] e.facts) (known_lean c each e.functions e.places [] e.facts tt)) at s.pieces,
+        lean_append (items_often 1 path) _ (often_lean 1 path (path_all IsLeanTold more c each call_lean e.functions (cycles_of bills) at s.pieces))
+            (spread_lean bills (known_all IsLeanTold more c each call_lean e.functions e.places [] e.facts tt) (length bills) (calls_on path)),
       )
 
   scope_lean : (at : ℕ) (s : Span) → AreLean (scope_bill e at s)
@@ -246,13 +226,13 @@ module _ (e : Scene) (some : 0 < line_cost e.plant) where
       lean_append (bill_times turns turn) _ (lean_times turns turn (lean_append head _ f (test_lean at, lean_append body _ g (jump_lean back, tt))))
       (lean_append head _ f (test_lean at, (jump_lean (at + 4), tt)))
 
-  cycles_lean : (h : Home) (n : ℕ) → IsLean (cycles_item h n).cost
-  cycles_lean h n = record { instructions = omega arith; misses = omega arith; backs = omega arith }
+  cycles_lean : (s : Spot) (n : ℕ) → is_call s ≡ false → IsLean (cycles_item s n)
+  cycles_lean s n told = record { instructions = omega arith; misses = omega arith; backs = omega arith; told = told }
 
   marked_lean : (task at : ℕ) (plans : List Plan) (k : ℕ) → AreLean (marked_bill e.plant task at plans k)
   marked_lean task at [] k = tt
   marked_lean task at (plan ∷ plans) zero =
-      (rule_lean at PmMem, (cycles_lean (Switch task) e.plant.switch, (cycles_lean (At at) plan.stated, (cycles_lean (Switch task) e.plant.switch, (rule_lean at (Jalr 0 4 (pos 0)), tt)))))
+      (rule_lean at PmMem, (cycles_lean (Switch task) e.plant.switch refl, (cycles_lean (At at) plan.stated refl, (cycles_lean (Switch task) e.plant.switch refl, (rule_lean at (Jalr 0 4 (pos 0)), tt)))))
   marked_lean task at (plan ∷ plans) (suc k) = marked_lean task at plans k
 
   module _ (known : List CallBill) (least : (f : ℕ) → AreLean (call_at known f).least) (parted : (f : ℕ) → AreLean (call_at known f).parted) where
@@ -422,7 +402,7 @@ job_lean e some known h program =
 task_lean : (p : Plant) → 0 < line_cost p → (plans : List Plan) (task : ℕ) (program : Resolved) (t : TaskPlaces) → AreLean (task_bill p plans task program t)
 task_lean p some plans task program t =
     let known : List CallBill = bills_of (scene_of p plans program t) (stubs_of task t) (stack_of program t) [] [] program.routines in (
-      record { instructions = omega arith; misses = omega arith; backs = omega arith },
+      record { instructions = omega arith; misses = omega arith; backs = omega arith; told = refl },
       job_lean (known_scene p plans program t) some known (all_lean (scene_of p plans program t) some (stubs_of task t) (stack_of program t) [] [] program.routines tt) program,
     )
 
@@ -432,7 +412,12 @@ set_lean p some k (t ∷ ts) = lean_append (task_bill p t.plans k t.task.program
 
 -- ---- sums
 
-lean_total : (bill : Bill) → AreLean bill → IsLean (total bill)
+record IsLeanCost (c : Cost) : Type 0 where
+  instructions : c.instructions ≤ c.cycles
+  misses : c.misses ≤ c.cycles
+  backs : c.backs ≤ c.cycles
+
+lean_total : (bill : Bill) → AreLean bill → IsLeanCost (total bill)
 lean_total [] h = record { instructions = omega arith; misses = omega arith; backs = omega arith }
 lean_total (x ∷ bill) h =
     let rest = lean_total bill h.1 in
@@ -443,6 +428,12 @@ lean_total (x ∷ bill) h =
     let m' = h.0.misses in
     let b' = h.0.backs in
     record { instructions = omega (arith, i, i'); misses = omega (arith, m, m'); backs = omega (arith, b, b') }
+
+-- ---- items
+
+pub told_all : (bill : Bill) → AreLean bill → AreTold bill
+told_all [] h = tt
+told_all (x ∷ bill) h = (h.0.told, told_all bill h.1)
 
 pub lean_small : (bill : Bill) → AreLean bill → cycles_on bill < 2 ^ 63 → IsSmall bill
 lean_small bill h few = let sum = lean_total bill h in record { instructions = sum.instructions; misses = sum.misses; backs = sum.backs; cycles = omega (arith, few) }

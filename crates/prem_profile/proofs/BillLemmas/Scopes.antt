@@ -2,7 +2,7 @@
 use Rattle.std.specs.Prelude.{Vec}
 use Rattle.std.specs.Global.{Global}
 use Rattle.std.proofs.Common.{◌≡◌, ℕ, zero, suc, ◌+◌, ◌/◌, ◌<◌, ◌≤◌, Option, List, [], ◌∷◌, ◌++◌, append-nil, ◌||◌, map, length, length-append, drop, get_or, refl, ap, sym, ◌∙◌, arith}
-use Rattle.std.proofs.lemmas.List.{drop_more}
+use Rattle.std.proofs.lemmas.List.{drop_more, map-append}
 use Rattle.std.proofs.lemmas.List.Folds.{list_any-append}
 use Rattle.std.specs.List.{list_all, list_any}
 use Rattle.prem_list.specs.declared.Sequence.{Sequence}
@@ -16,6 +16,7 @@ use Rattle.prem_asm.specs.Pieces.{Pieces, no_pieces, size_of}
 use Rattle.prem_layout.specs.Bounds.{start_code}
 use Rattle.prem_layout.specs.Footprint.{lines_of}
 use Rattle.prem_layout.specs.Parts.{code_part}
+use Rattle.prem_bounds.specs.Scale.{clipped}
 use Rattle.prem_bounds.specs.TableOf.{listed}
 use Rattle.prem_wcet_laws.specs.Scopes.{Fact, Scene, Span, code_ranges, data_ranges, extent_of, fact_of, is_roomy}
 use Rattle.prem_wcet_laws.specs.Parted.{Edge}
@@ -33,9 +34,9 @@ use Rattle.prem_wcet.proofs.OnceSame.{code_same, edges_same, ranges_same, touche
 use Rattle.prem_wcet.proofs.Passages.{between_kept}
 use Rattle.prem_wcet.proofs.Rooms.{room_is}
 use Rattle.prem_wcet.proofs.SameRanges.{same_append, same_lines}
-use Rattle.prem_profile.specs.Bound.Bills.{Bill}
+use Rattle.prem_profile.specs.Bound.Bills.{Bill, cycles_on}
 use Rattle.prem_profile.specs.Bound.Pieces.{PlaceCost, bill_from, instruction_cost, part_bill}
-use Rattle.prem_profile.specs.Bound.Scopes.{bills_behind, crowd_lines, function_from, lines_item, scope_bill, scope_bill_with, scope_cost, scope_misses}
+use Rattle.prem_profile.specs.Bound.Scopes.{bills_behind, crowd_lines, cycles_of, lines_item, path_with, scope_bill, scope_bill_with, scope_cost, scope_misses}
 use Rattle.prem_profile.specs.declared.bound.bill.Item.{Item}
 use Rattle.prem_profile.specs.Bound.Priced.{bills_in, crowd_bill, crowd_cost, crowd_misses}
 use Rattle.prem_profile.proofs.BillLemmas.Alike.{pieces_behind}
@@ -80,7 +81,7 @@ module _ (e : Scene) (lines held : List ℕ) (c : Crowd) (plant : IsPlant e.plan
   pub crowd_is : (at : ℕ) (ps : Pieces) → crowd_bill e c at ps ≡ scope_bill_with e at (bare_span ps) lines held
   crowd_is at ps = λ i. lines_item e.plant at (is.held i) ∷ path (cost_same i) where
     path : PlaceCost → Bill
-    path k = bill_from k (part_bill e.functions (bills_behind k e.functions e.places [] e.facts)) at ps
+    path k = path_with k e.functions (bills_behind k e.functions e.places [] e.facts) at ps
 
 -- ---- the bills of functions
 
@@ -108,25 +109,28 @@ pieces_drop fs code n lt le =
     let long = pieces_long fs code le in
     drop_more pss n no_pieces (omega (arith, lt, long)) ∙ ap (λ ps. ps ∷ drop (n + 1) pss) (pieces_at fs code n lt le)
 
-one_more : (bills : List (Vec Item Global)) (b : Vec Item Global) → bills_in (bills ++ b ∷ []) ≡ bills_in bills ++ b.items ∷ []
+pub one_more : (bills : List (Vec Item Global)) (b : Vec Item Global) → bills_in (bills ++ b ∷ []) ≡ bills_in bills ++ b.items ∷ []
 one_more [] b = refl
 one_more (x ∷ bills) b = ap (λ bs. x.items ∷ bs) (one_more bills b)
 
 -- one more function is known
-pub next_bill : (c : PlaceCost) (functions : ℕ) (places : ℕ → ℕ) (fs : List FactTree) (code : List (Sequence Piece)) (n : ℕ) (old new : List (Vec Item Global)) (b : Vec Item Global) (all : List Bill) →
-    n < length fs → length fs ≤ length code → length (bills_in old) ≡ n → new ≡ old ++ b ∷ [] →
-    b.items ≡ function_from c functions (bills_in old) (places (code_part n)) (get_or (listed code) n no_pieces) →
-    pieces_behind c functions places (bills_in old) (drop n (map (λ (f : Fact). f.pieces) (facts_in fs code))) ≡ all →
-    pieces_behind c functions places (bills_in new) (drop (n + 1) (map (λ (f : Fact). f.pieces) (facts_in fs code))) ≡ all
-next_bill c functions places fs code n old new b all lt le long put is rest =
-    let left : List Pieces = drop (n + 1) (map (λ (f : Fact). f.pieces) (facts_in fs code)) in
-    ap (λ bs. pieces_behind c functions places (bills_in bs) left) put
-    ∙ ap (λ bs. pieces_behind c functions places bs left)
-    (one_more old b ∙ ap (λ x. bills_in old ++ x ∷ []) (is ∙ ap (λ k. function_from c functions (bills_in old) (places (code_part k)) (get_or (listed code) n no_pieces)) (sym long)))
-    ∙ ap (pieces_behind c functions places (bills_in old)) (sym (pieces_drop fs code n lt le)) ∙ rest
+module _ (old new : List Bill) (b : Bill) (put : new ≡ old ++ b ∷ []) where
+  pub next_bill : (c : PlaceCost) (functions : ℕ) (places : ℕ → ℕ) (fs : List FactTree) (code : List (Sequence Piece)) (n : ℕ) (cycles : List ℕ) (all : List Bill) →
+      n < length fs → length fs ≤ length code → length old ≡ n → cycles ≡ cycles_of old →
+      b ≡ bill_from c (part_bill functions cycles) (places (code_part n)) (get_or (listed code) n no_pieces) →
+      pieces_behind c functions places old (drop n (map (λ (f : Fact). f.pieces) (facts_in fs code))) ≡ all →
+      pieces_behind c functions places new (drop (n + 1) (map (λ (f : Fact). f.pieces) (facts_in fs code))) ≡ all
+  next_bill c functions places fs code n cycles all lt le long told is rest =
+      let left : List Pieces = drop (n + 1) (map (λ (f : Fact). f.pieces) (facts_in fs code)) in
+      let ps : Pieces = get_or (listed code) n no_pieces in
+      ap (λ bs. pieces_behind c functions places bs left) (put ∙ ap (λ x. old ++ x ∷ []) (is ∙ (λ i. bill_from c (part_bill functions (told i)) (places (code_part (sym long i))) ps)))
+      ∙ ap (pieces_behind c functions places old) (sym (pieces_drop fs code n lt le)) ∙ rest
 
-pub next_long : (old new : List (Vec Item Global)) (b : Vec Item Global) (n : ℕ) → length (bills_in old) ≡ n → new ≡ old ++ b ∷ [] → length (bills_in new) ≡ n + 1
-next_long old new b n long put = ap (λ bs. length (bills_in bs)) put ∙ ap length (one_more old b) ∙ length-append (bills_in old) (b.items ∷ []) ∙ ap (λ k. k + 1) long
+  pub next_long : (n : ℕ) → length old ≡ n → length new ≡ n + 1
+  next_long n long = ap length put ∙ length-append old (b ∷ []) ∙ ap (λ k. k + 1) long
+
+  pub next_cycles : (cycles more : List ℕ) → cycles ≡ cycles_of old → more ≡ cycles ++ clipped (cycles_on b) ∷ [] → more ≡ cycles_of new
+  next_cycles cycles more told is = is ∙ ap (λ ns. ns ++ clipped (cycles_on b) ∷ []) told ∙ sym (ap cycles_of put ∙ map-append (λ (x : Bill). clipped (cycles_on x)) old (b ∷ []))
 
 -- ---- ranges that are kept once
 

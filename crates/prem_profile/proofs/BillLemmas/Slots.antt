@@ -5,10 +5,10 @@ use Rattle.std.proofs.lemmas.Bool.{cases_eq}
 use Rattle.std.proofs.lemmas.Bool.Decides.{nat_tests}
 use Rattle.std.proofs.lemmas.List.{get_or-set_same, get_or-set_other, length-set}
 use Rattle.prem_profile.specs.declared.bound.bill.Item.{Item}
+use Rattle.prem_profile.specs.declared.bound.bill.Spot.{Spot}
+use Rattle.prem_profile.specs.declared.bound.bill.Spot.TheVariants.{Switch, At, Call}
 use Rattle.prem_profile.specs.declared.cost.Cost.{Cost}
-use Rattle.prem_profile.specs.declared.home.Home.{Home}
-use Rattle.prem_profile.specs.declared.home.Home.TheVariants.{Rest, Switch, At}
-use Rattle.prem_profile.specs.Bound.Bills.{Bill, gathered, is_one, spent_at, told_plus, with_bill, with_item}
+use Rattle.prem_profile.specs.Bound.Bills.{Bill, is_one, spent_at, told_plus, with_item}
 use Rattle.prem_profile.specs.Bound.Slots.{items_with, lower, lowest, more_at, nothing_spent, slot_of, slots_by, slots_for, slots_with}
 
 -- ---- items in memory
@@ -26,22 +26,19 @@ set_past (y ∷ xs) zero x le = absurd (omega (arith, le))
 set_past (y ∷ xs) (suc r) x le = ap (λ ys. y ∷ ys) (set_past xs r x (omega (arith, le)))
 
 pub set_is : (xs : Bill) (r : ℕ) (c : Cost) →
-    slice_set xs r (spent_at (slice_index_or xs r nothing_spent).home (told_plus (slice_index_or xs r nothing_spent).cost c)) ≡ more_at xs r c
+    slice_set xs r (spent_at (slice_index_or xs r nothing_spent).spot (told_plus (slice_index_or xs r nothing_spent).cost c)) ≡ more_at xs r c
 set_is [] zero c = refl
 set_is [] (suc r) c = refl
 set_is (x ∷ xs) zero c = refl
 set_is (x ∷ xs) (suc r) c = ap (λ ys. x ∷ ys) (set_is xs r c)
 
--- ---- homes and their slots
+-- ---- spots and their slots
 
 equal_test : (m n : ℕ) → m ≡ n → (m == n) ≡ true
 equal_test m n e = grind (arith, nat_tests)
 
 are_equal : (m n : ℕ) → (m == n) ≡ true → m ≡ n
 are_equal m n e = grind (arith, nat_tests)
-
-less_test : (m n : ℕ) → m < n → (m == n) ≡ false
-less_test m n lt = grind (arith, nat_tests)
 
 more_test : (m n : ℕ) → n < m → (m == n) ≡ false
 more_test m n lt = grind (arith, nat_tests)
@@ -59,44 +56,36 @@ tests_agree m n a b f g = by (m == n) (a == b) refl refl where
   by false true d e = absurd (true_false (sym (equal_test m n (g (are_equal a b e))) ∙ d))
 
 -- words from a lowest one on
-abbrev pub IsFrom : (low : ℕ) → Home → Type 0
-IsFrom low Rest = Unit {0}
+abbrev pub IsFrom : (low : ℕ) → Spot → Type 0
 IsFrom low (Switch k) = Unit {0}
 IsFrom low (At pc) = low ≤ pc / 4
+IsFrom low (Call f) = Unit {0}
 
 abbrev pub AreFrom : (low : ℕ) → Bill → Type 0
 AreFrom low [] = Unit {0}
-AreFrom low (x ∷ bill) = IsFrom low x.home × AreFrom low bill
+AreFrom low (x ∷ bill) = IsFrom low x.spot × AreFrom low bill
 
-switches_agree : (j k : ℕ) → (j == k) ≡ (2 * j + 1 == 2 * k + 1)
-switches_agree j k = tests_agree j k (2 * j + 1) (2 * k + 1) (λ e. omega (arith, e)) (λ e. omega (arith, e))
+words_agree : (low a b : ℕ) → low ≤ a → low ≤ b → (a == b) ≡ (3 * (a - low) + 1 == 3 * (b - low) + 1)
+words_agree low a b f g = tests_agree a b (3 * (a - low) + 1) (3 * (b - low) + 1) (λ e. omega (arith, e)) (λ e. omega (arith, e, f, g))
 
-words_agree : (low a b : ℕ) → low ≤ a → low ≤ b → (a == b) ≡ (2 * (a - low) + 2 == 2 * (b - low) + 2)
-words_agree low a b f g = tests_agree a b (2 * (a - low) + 2) (2 * (b - low) + 2) (λ e. omega (arith, e)) (λ e. omega (arith, e, f, g))
-
-odd_even : (k m : ℕ) → false ≡ (2 * k + 1 == 2 * m + 2)
-odd_even k m = by (2 * k + 1 == 2 * m + 2) refl where
-  by : (t : Bool) → (2 * k + 1 == 2 * m + 2) ≡ t → false ≡ t
+-- numbers that aren't equal
+apart : (m n : ℕ) → (m ≡ n → ⊥) → false ≡ (m == n)
+apart m n ne = by (m == n) refl where
+  by : (t : Bool) → (m == n) ≡ t → false ≡ t
   by false e = refl
-  by true e = let same = are_equal (2 * k + 1) (2 * m + 2) e in absurd (omega (arith, same))
+  by true e = absurd (ne (are_equal m n e))
 
-even_odd : (m k : ℕ) → false ≡ (2 * m + 2 == 2 * k + 1)
-even_odd m k = by (2 * m + 2 == 2 * k + 1) refl where
-  by : (t : Bool) → (2 * m + 2 == 2 * k + 1) ≡ t → false ≡ t
-  by false e = refl
-  by true e = let same = are_equal (2 * m + 2) (2 * k + 1) e in absurd (omega (arith, same))
-
--- homes are one where their slots are
-pub slots_agree : (low : ℕ) (a b : Home) → IsFrom low a → IsFrom low b → is_one a b ≡ (slot_of low a == slot_of low b)
-slots_agree low Rest Rest f g = refl
-slots_agree low Rest (Switch k) f g = sym (less_test 0 (2 * k + 1) (omega arith))
-slots_agree low Rest (At pc) f g = sym (less_test 0 (2 * (pc / 4 - low) + 2) (omega arith))
-slots_agree low (Switch j) Rest f g = sym (more_test (2 * j + 1) 0 (omega arith))
-slots_agree low (Switch j) (Switch k) f g = switches_agree j k
-slots_agree low (Switch j) (At pc) f g = odd_even j (pc / 4 - low)
-slots_agree low (At pc) Rest f g = sym (more_test (2 * (pc / 4 - low) + 2) 0 (omega arith))
-slots_agree low (At pc) (Switch k) f g = even_odd (pc / 4 - low) k
+-- spots are one where their slots are
+pub slots_agree : (low : ℕ) (a b : Spot) → IsFrom low a → IsFrom low b → is_one a b ≡ (slot_of low a == slot_of low b)
+slots_agree low (Switch j) (Switch k) f g = tests_agree j k (3 * j) (3 * k) (λ e. omega (arith, e)) (λ e. omega (arith, e))
+slots_agree low (Switch j) (At pc) f g = apart (3 * j) (3 * (pc / 4 - low) + 1) (λ e. omega (arith, e))
+slots_agree low (Switch j) (Call h) f g = apart (3 * j) (3 * h + 2) (λ e. omega (arith, e))
+slots_agree low (At pc) (Switch k) f g = apart (3 * (pc / 4 - low) + 1) (3 * k) (λ e. omega (arith, e))
 slots_agree low (At a) (At b) f g = words_agree low (a / 4) (b / 4) f g
+slots_agree low (At pc) (Call h) f g = apart (3 * (pc / 4 - low) + 1) (3 * h + 2) (λ e. omega (arith, e))
+slots_agree low (Call h) (Switch k) f g = apart (3 * h + 2) (3 * k) (λ e. omega (arith, e))
+slots_agree low (Call h) (At pc) f g = apart (3 * h + 2) (3 * (pc / 4 - low) + 1) (λ e. omega (arith, e))
+slots_agree low (Call h) (Call k) f g = tests_agree h k (3 * h + 2) (3 * k + 2) (λ e. omega (arith, e)) (λ e. omega (arith, e))
 
 -- ---- where items stand
 
@@ -107,7 +96,7 @@ behind_one (suc n) = suc (suc n)
 
 abbrev pub place_of : (low slot : ℕ) → Bill → ℕ
 place_of low slot [] = 0
-place_of low slot (x ∷ bill) = cond (slot_of low x.home == slot) 1 (behind_one (place_of low slot bill))
+place_of low slot (x ∷ bill) = cond (slot_of low x.spot == slot) 1 (behind_one (place_of low slot bill))
 
 abbrev pub AreSlots : (low : ℕ) → (slots : List ℕ) → Bill → Type 0
 AreSlots low slots bill = (slot : ℕ) → slot < length slots → slice_index_or slots slot 0 ≡ place_of low slot bill
@@ -120,16 +109,16 @@ old_item bill k x =
     ap (λ t. cond t (bill ++ x ∷ []) (more_at bill (suc k - 1) x.cost)) (more_test (suc k) 0 (omega arith))
     ∙ (let less : suc k - 1 ≡ k = omega arith in ap (λ n. more_at bill n x.cost) less)
 
-module _ (low : ℕ) (x : Item) (from : IsFrom low x.home) where
+module _ (low : ℕ) (x : Item) (from : IsFrom low x.spot) where
   abbrev own : ℕ
-  own = slot_of low x.home
+  own = slot_of low x.spot
 
   -- the item at that place gets the cost, or there is a new one
   put_is : (bill : Bill) → AreFrom low bill → items_with bill (place_of low own bill) x ≡ with_item bill x
   put_is [] f = new_item [] x
-  put_is (y ∷ bill) f = by (slot_of low y.home == own) (place_of low own bill) (put_is bill f.1) ∙ ap (λ t. cond t (spent_at y.home (told_plus y.cost x.cost) ∷ bill) (y ∷ with_item bill x)) (sym (slots_agree low y.home x.home f.0 from)) where
+  put_is (y ∷ bill) f = by (slot_of low y.spot == own) (place_of low own bill) (put_is bill f.1) ∙ ap (λ t. cond t (spent_at y.spot (told_plus y.cost x.cost) ∷ bill) (y ∷ with_item bill x)) (sym (slots_agree low y.spot x.spot f.0 from)) where
     by : (t : Bool) (n : ℕ) → items_with bill n x ≡ with_item bill x →
-        items_with (y ∷ bill) (cond t 1 (behind_one n)) x ≡ cond t (spent_at y.home (told_plus y.cost x.cost) ∷ bill) (y ∷ with_item bill x)
+        items_with (y ∷ bill) (cond t 1 (behind_one n)) x ≡ cond t (spent_at y.spot (told_plus y.cost x.cost) ∷ bill) (y ∷ with_item bill x)
     by true n e = old_item (y ∷ bill) 0 x
     by false zero e = new_item (y ∷ bill) x ∙ ap (λ ys. y ∷ ys) (sym (new_item bill x) ∙ e)
     by false (suc n) e = old_item (y ∷ bill) (suc n) x ∙ ap (λ ys. y ∷ ys) (sym (old_item bill n x) ∙ e)
@@ -139,17 +128,17 @@ module _ (low : ℕ) (x : Item) (from : IsFrom low x.home) where
   more_places : (slot k : ℕ) (c : Cost) (bill : Bill) → place_of low slot (more_at bill k c) ≡ place_of low slot bill
   more_places slot k c [] = refl
   more_places slot zero c (y ∷ bill) = refl
-  more_places slot (suc k) c (y ∷ bill) = ap (λ n. cond (slot_of low y.home == slot) 1 (behind_one n)) (more_places slot k c bill)
+  more_places slot (suc k) c (y ∷ bill) = ap (λ n. cond (slot_of low y.spot == slot) 1 (behind_one n)) (more_places slot k c bill)
 
   -- ---- a new one
 
   other_places : (slot : ℕ) → (own == slot) ≡ false → (bill : Bill) → place_of low slot (bill ++ x ∷ []) ≡ place_of low slot bill
   other_places slot e [] = ap (λ t. cond t 1 0) e
-  other_places slot e (y ∷ bill) = ap (λ n. cond (slot_of low y.home == slot) 1 (behind_one n)) (other_places slot e bill)
+  other_places slot e (y ∷ bill) = ap (λ n. cond (slot_of low y.spot == slot) 1 (behind_one n)) (other_places slot e bill)
 
   last_place : (bill : Bill) → place_of low own bill ≡ 0 → place_of low own (bill ++ x ∷ []) ≡ length bill + 1
   last_place [] e = ap (λ t. cond t 1 0) (equal_test own own refl)
-  last_place (y ∷ bill) e = by (slot_of low y.home == own) (place_of low own bill) e (last_place bill) where
+  last_place (y ∷ bill) e = by (slot_of low y.spot == own) (place_of low own bill) e (last_place bill) where
     by : (t : Bool) (n : ℕ) → cond t 1 (behind_one n) ≡ 0 → (n ≡ 0 → place_of low own (bill ++ x ∷ []) ≡ length bill + 1) →
         cond t 1 (behind_one (place_of low own (bill ++ x ∷ []))) ≡ length (y ∷ bill) + 1
     by true n e rest = absurd (omega (arith, e))
@@ -210,8 +199,8 @@ module _ (low : ℕ) (x : Item) (from : IsFrom low x.home) where
 
   pub from_put : (bill : Bill) → AreFrom low bill → AreFrom low (with_item bill x)
   from_put [] f = (from, tt)
-  from_put (y ∷ bill) f = by (is_one y.home x.home) (from_put bill f.1) where
-    by : (t : Bool) → AreFrom low (with_item bill x) → AreFrom low (cond t (spent_at y.home (told_plus y.cost x.cost) ∷ bill) (y ∷ with_item bill x))
+  from_put (y ∷ bill) f = by (is_one y.spot x.spot) (from_put bill f.1) where
+    by : (t : Bool) → AreFrom low (with_item bill x) → AreFrom low (cond t (spent_at y.spot (told_plus y.cost x.cost) ∷ bill) (y ∷ with_item bill x))
     by true more = f
     by false more = (f.0, more)
 
@@ -219,40 +208,40 @@ module _ (low : ℕ) (x : Item) (from : IsFrom low x.home) where
 
 lowest_below : (m : ℕ) (bill : Bill) → lowest m bill ≤ m
 lowest_below m [] = omega arith
-lowest_below m (x ∷ bill) = let rest = lowest_below (lower m x.home) bill in let one = lower_below m x.home in omega (arith, rest, one) where
-  lower_below : (m : ℕ) (h : Home) → lower m h ≤ m
-  lower_below m Rest = omega arith
+lowest_below m (x ∷ bill) = let rest = lowest_below (lower m x.spot) bill in let one = lower_below m x.spot in omega (arith, rest, one) where
+  lower_below : (m : ℕ) (s : Spot) → lower m s ≤ m
   lower_below m (Switch k) = omega arith
   lower_below m (At pc) = omega arith
+  lower_below m (Call f) = omega arith
 
-home_from : (m low : ℕ) (h : Home) → low ≤ lower m h → IsFrom low h
-home_from m low Rest le = tt
-home_from m low (Switch k) le = tt
-home_from m low (At pc) le = below m low (pc / 4) le where
+spot_from : (m low : ℕ) (s : Spot) → low ≤ lower m s → IsFrom low s
+spot_from m low (Switch k) le = tt
+spot_from m low (Call f) le = tt
+spot_from m low (At pc) le = below m low (pc / 4) le where
   below : (m low a : ℕ) → low ≤ min m a → low ≤ a
   below m low a le = omega (arith, le)
 
 pub all_from : (m : ℕ) (bill : Bill) → AreFrom (lowest m bill) bill
 all_from m [] = tt
-all_from m (x ∷ bill) = (home_from m (lowest (lower m x.home) bill) x.home (lowest_below (lower m x.home) bill), all_from (lower m x.home) bill)
+all_from m (x ∷ bill) = (spot_from m (lowest (lower m x.spot) bill) x.spot (lowest_below (lower m x.spot) bill), all_from (lower m x.spot) bill)
 
 -- slots of a number of these
 abbrev pub AreWithin : (low many : ℕ) → Bill → Type 0
 AreWithin low many [] = Unit {0}
-AreWithin low many (x ∷ bill) = (slot_of low x.home < many) × AreWithin low many bill
+AreWithin low many (x ∷ bill) = (slot_of low x.spot < many) × AreWithin low many bill
 
 count_below : (low n : ℕ) (bill : Bill) → n ≤ slots_for low n bill
 count_below low n [] = omega arith
 count_below low n (x ∷ bill) =
-    let rest = count_below low (max n (slot_of low x.home + 1)) bill in
-    above n (slot_of low x.home + 1) (slots_for low (max n (slot_of low x.home + 1)) bill) rest where
+    let rest = count_below low (max n (slot_of low x.spot + 1)) bill in
+    above n (slot_of low x.spot + 1) (slots_for low (max n (slot_of low x.spot + 1)) bill) rest where
       above : (n s c : ℕ) → max n s ≤ c → n ≤ c
       above n s c le = omega (arith, le)
 
 pub all_within : (low n : ℕ) (bill : Bill) → AreWithin low (slots_for low n bill) bill
 all_within low n [] = tt
 all_within low n (x ∷ bill) =
-    (above n (slot_of low x.home) (slots_for low (max n (slot_of low x.home + 1)) bill) (count_below low (max n (slot_of low x.home + 1)) bill), all_within low (max n (slot_of low x.home + 1)) bill) where
+    (above n (slot_of low x.spot) (slots_for low (max n (slot_of low x.spot + 1)) bill) (count_below low (max n (slot_of low x.spot + 1)) bill), all_within low (max n (slot_of low x.spot + 1)) bill) where
       above : (n s c : ℕ) → max n (s + 1) ≤ c → s < c
       above n s c le = omega (arith, le)
 

@@ -10,7 +10,7 @@ use Rattle.prem_profile.specs.declared.home.Home.{Home}
 use Rattle.prem_profile.specs.Spent.{plus, where_so}
 use Rattle.prem_profile.specs.Account.{costs_sum, each_row, row_of}
 use Rattle.prem_profile.specs.Strips.{first_row, rows_of, strip_words}
-use Rattle.prem_profile.specs.Bound.Bills.{Bill, cycles_on, total}
+use Rattle.prem_profile.specs.Bound.Bills.{Bill, cycles_on, home_of, total}
 use Rattle.prem_profile.specs.Bound.Booked.{BillRowsAddUp, SetBillsAddUp, bill_row, bills_from}
 use Rattle.prem_profile.proofs.Turns.{same_cost}
 use Rattle.prem_profile.proofs.Booking.{with_row}
@@ -26,9 +26,9 @@ rows_come tasks words rows there [] = sum_none (bill_row tasks words []) 0 rows 
 rows_come tasks words rows there (x ∷ bill) =
     let f : ℕ → Cost = bill_row tasks words bill in
     let g : ℕ → Cost = bill_row tasks words (x ∷ bill) in
-    let r : ℕ = row_of tasks words x.home in
+    let r : ℕ = row_of tasks words (home_of x.spot) in
     let long : length (each_row f 0 rows) ≡ rows = rows_long f 0 rows in
-    let lt : r < rows = there x.home in
+    let lt : r < rows = there (home_of x.spot) in
     ap costs_sum (sym (with_row f g r rows x.cost (λ i. swapped (where_so (r == i) x.cost) (f i)))) ∙ sum_with (each_row f 0 rows) r x.cost (omega (arith, long, lt))
     ∙ ap (λ c. plus c x.cost) (rows_come tasks words rows there bill) ∙ swapped (total bill) x.cost
 

@@ -14,8 +14,9 @@ use Rattle.prem_wcet_laws.specs.Weights.{PlaceWeight, weight_from, weighted_from
 use Rattle.prem_wcet_laws.specs.Least.{own, own_jump}
 use Rattle.prem_profile.specs.Bound.Bills.{Bill, bill_times}
 use Rattle.prem_profile.specs.Bound.Pieces.{PlaceCost, part_bill}
-use Rattle.prem_profile.specs.Bound.Scopes.{bills_behind, crowd_lines, lines_item, own_bill, own_jump_item, own_test_item, path_bill, rule_cost, scope_bill, scope_bill_with, scope_cost}
+use Rattle.prem_profile.specs.Bound.Scopes.{bills_behind, crowd_lines, cycles_of, lines_item, own_bill, own_jump_item, own_test_item, path_bill, rule_cost, scope_bill, scope_bill_with, scope_cost}
 use Rattle.prem_profile.proofs.BoundLemmas.Sums.{Comes, known_come, led, no_part, none, part_comes, pieces_come, recount, times}
+use Rattle.prem_profile.proofs.BoundLemmas.Spread.{spread_kept}
 
 -- ---- instructions
 
@@ -90,8 +91,9 @@ module _ (e : Scene) where
   path_comes c w same at s =
       let bills : List Bill = bills_behind c e.functions e.places [] e.facts in
       let known : List ℕ = places_behind w e.functions e.places [] e.facts in
-      pieces_come w c same (part_bill e.functions bills) (part_weight e.functions (weight_at known) (λ k. 0))
-      (part_comes w c same e.functions bills known (known_come w c same e.functions e.places [] [] e.facts tt)) at s.pieces
+      spread_kept c e.functions e.places e.facts at s.pieces (path_weight e w at s)
+      (pieces_come w c same (part_bill e.functions (cycles_of bills)) (part_weight e.functions (weight_at known) (λ k. 0))
+      (part_comes w c same e.functions bills known (known_come w c same e.functions e.places [] [] e.facts tt)) at s.pieces)
 
   pub scope_comes_with : (at : ℕ) (s : Span) (lines held : List ℕ) → Comes (scope_bill_with e at s lines held) (charge_with e at s lines held)
   scope_comes_with at s lines held =

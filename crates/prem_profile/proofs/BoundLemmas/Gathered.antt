@@ -1,17 +1,18 @@
--- Gathered bills come to what bills come to, in all and in each row, and have one item for each home.
+-- Gathered bills come to what bills come to, in all and in each row, and have one item for each spot.
 use Rattle.std.specs.Prelude.{◌==◌, ◌||◌, slice_index_or}
-use Rattle.std.proofs.Common.{◌≡◌, ℕ, zero, suc, ◌+◌, ◌/◌, Bool, true, false, cond, List, [], ◌∷◌, refl, ap, sym, ◌∙◌, arith}
+use Rattle.std.proofs.Common.{◌≡◌, ℕ, ◌/◌, Bool, true, false, cond, List, [], ◌∷◌, refl, ap, sym, ◌∙◌, arith}
 use Rattle.std.proofs.lemmas.Bool.Decides.{nat_tests}
 use Rattle.prem_bounds.specs.Scale.{clipped}
 use Rattle.prem_profile.specs.declared.bound.bill.Item.{Item}
+use Rattle.prem_profile.specs.declared.bound.bill.Spot.{Spot}
+use Rattle.prem_profile.specs.declared.bound.bill.Spot.TheVariants.{Switch, At, Call}
 use Rattle.prem_profile.specs.declared.cost.Cost.{Cost}
-use Rattle.prem_profile.specs.declared.home.Home.{Home}
-use Rattle.prem_profile.specs.declared.home.Home.TheVariants.{Rest, Switch, At}
+use Rattle.prem_profile.specs.declared.home.Home.TheVariants.{Switch as Switches}
 use Rattle.prem_profile.specs.Spent.{no_cost, plus, where_so}
 use Rattle.prem_profile.specs.Account.{is_in_row, row_of}
-use Rattle.prem_profile.specs.Bound.Bills.{Bill, gathered, is_one, spent_at, told_plus, total, with_bill, with_item}
+use Rattle.prem_profile.specs.Bound.Bills.{Bill, gathered, home_of, is_one, spent_at, told_plus, total, with_bill, with_item}
 use Rattle.prem_profile.specs.Bound.Booked.{spent_on}
-use Rattle.prem_profile.specs.Bound.Gathered.{AreAlike, AreApart, BillsAreGathered, has_home}
+use Rattle.prem_profile.specs.Bound.Gathered.{AreAlike, AreApart, BillsAreGathered, has_spot}
 
 are_equal : (m n : ℕ) → (m == n) ≡ true → m ≡ n
 are_equal m n e = grind (arith, nat_tests)
@@ -77,28 +78,28 @@ joined a b r = record { instructions = omega arith; cycles = omega arith; misses
 nothing : (r : Cost) → AreAlike (plus no_cost r) (plus (plus no_cost r) no_cost)
 nothing r = record { instructions = omega arith; cycles = omega arith; misses = omega arith; backs = omega arith }
 
--- ---- what homes have that are so, where homes that are one are so alike
+-- ---- what spots have that are so, where spots that are one are so alike
 
-module _ (is_so : Home → Bool) (same : (a b : Home) → is_one a b ≡ true → is_so a ≡ is_so b) where
+module _ (is_so : Spot → Bool) (same : (a b : Spot) → is_one a b ≡ true → is_so a ≡ is_so b) where
   merged : (s t : Bool) (a b r : Cost) → s ≡ t → AreAlike (plus (where_so s (told_plus a b)) r) (plus (plus (where_so s a) r) (where_so t b))
   merged true true a b r e = joined a b r
   merged false false a b r e = nothing r
   merged true false a b r e = absurd (true_false e)
   merged false true a b r e = absurd (false_true e)
 
-  one_more : (bill : Bill) (x : Item) → AreAlike (spent_on is_so (with_item bill x)) (plus (spent_on is_so bill) (where_so (is_so x.home) x.cost))
-  one_more [] x = swapped (where_so (is_so x.home) x.cost)
-  one_more (y ∷ bill) x = by (is_one y.home x.home) refl (one_more bill x) where
-    by : (t : Bool) → is_one y.home x.home ≡ t → AreAlike (spent_on is_so (with_item bill x)) (plus (spent_on is_so bill) (where_so (is_so x.home) x.cost)) →
-        AreAlike (spent_on is_so (cond t (spent_at y.home (told_plus y.cost x.cost) ∷ bill) (y ∷ with_item bill x)))
-        (plus (plus (where_so (is_so y.home) y.cost) (spent_on is_so bill)) (where_so (is_so x.home) x.cost))
-    by true e more = merged (is_so y.home) (is_so x.home) y.cost x.cost (spent_on is_so bill) (same y.home x.home e)
-    by false e more = passed (where_so (is_so y.home) y.cost) (spent_on is_so (with_item bill x)) (spent_on is_so bill) (where_so (is_so x.home) x.cost) more
+  one_more : (bill : Bill) (x : Item) → AreAlike (spent_on is_so (with_item bill x)) (plus (spent_on is_so bill) (where_so (is_so x.spot) x.cost))
+  one_more [] x = swapped (where_so (is_so x.spot) x.cost)
+  one_more (y ∷ bill) x = by (is_one y.spot x.spot) refl (one_more bill x) where
+    by : (t : Bool) → is_one y.spot x.spot ≡ t → AreAlike (spent_on is_so (with_item bill x)) (plus (spent_on is_so bill) (where_so (is_so x.spot) x.cost)) →
+        AreAlike (spent_on is_so (cond t (spent_at y.spot (told_plus y.cost x.cost) ∷ bill) (y ∷ with_item bill x)))
+        (plus (plus (where_so (is_so y.spot) y.cost) (spent_on is_so bill)) (where_so (is_so x.spot) x.cost))
+    by true e more = merged (is_so y.spot) (is_so x.spot) y.cost x.cost (spent_on is_so bill) (same y.spot x.spot e)
+    by false e more = passed (where_so (is_so y.spot) y.cost) (spent_on is_so (with_item bill x)) (spent_on is_so bill) (where_so (is_so x.spot) x.cost) more
 
   all_more : (bill more : Bill) → AreAlike (spent_on is_so (with_bill bill more)) (plus (spent_on is_so bill) (spent_on is_so more))
   all_more bill [] = without (spent_on is_so bill)
   all_more bill (x ∷ more) =
-      moved (spent_on is_so (with_bill (with_item bill x) more)) (spent_on is_so (with_item bill x)) (spent_on is_so more) (spent_on is_so bill) (where_so (is_so x.home) x.cost)
+      moved (spent_on is_so (with_bill (with_item bill x) more)) (spent_on is_so (with_item bill x)) (spent_on is_so more) (spent_on is_so bill) (where_so (is_so x.spot) x.cost)
       (all_more (with_item bill x) more) (one_more bill x)
 
   kept : (bill : Bill) → AreAlike (spent_on is_so (gathered bill)) (spent_on is_so bill)
@@ -106,18 +107,18 @@ module _ (is_so : Home → Bool) (same : (a b : Home) → is_one a b ≡ true �
 
 -- ---- all of them
 
-abbrev all_homes : Home → Bool
-all_homes h = true
+abbrev all_spots : Spot → Bool
+all_spots s = true
 
-all_spent : (bill : Bill) → spent_on all_homes bill ≡ total bill
+all_spent : (bill : Bill) → spent_on all_spots bill ≡ total bill
 all_spent [] = refl
 all_spent (x ∷ bill) = ap (plus x.cost) (all_spent bill)
 
 pub totals_kept : (bill : Bill) → AreAlike (total (gathered bill)) (total bill)
 totals_kept bill =
-    let e = kept all_homes (λ a b e. refl) bill in
-    let g = told_same (total (gathered bill)) (spent_on all_homes (gathered bill)) (sym (all_spent (gathered bill))) in
-    let h = told_same (spent_on all_homes bill) (total bill) (all_spent bill) in
+    let e = kept all_spots (λ a b e. refl) bill in
+    let g = told_same (total (gathered bill)) (spent_on all_spots (gathered bill)) (sym (all_spent (gathered bill))) in
+    let h = told_same (spent_on all_spots bill) (total bill) (all_spent bill) in
     record {
       instructions = g.instructions ∙ e.instructions ∙ h.instructions;
       cycles = g.cycles ∙ e.cycles ∙ h.cycles;
@@ -127,18 +128,18 @@ totals_kept bill =
 
 -- ---- rows
 
-rows_same : (tasks : ℕ) (words : List ℕ) (a b : Home) → is_one a b ≡ true → row_of tasks words a ≡ row_of tasks words b
-rows_same tasks words Rest Rest e = refl
-rows_same tasks words Rest (Switch k) e = absurd (false_true e)
-rows_same tasks words Rest (At pc) e = absurd (false_true e)
-rows_same tasks words (Switch j) Rest e = absurd (false_true e)
-rows_same tasks words (Switch j) (Switch k) e = ap (λ n. row_of tasks words (Switch n)) (are_equal j k e)
+rows_same : (tasks : ℕ) (words : List ℕ) (a b : Spot) → is_one a b ≡ true → row_of tasks words (home_of a) ≡ row_of tasks words (home_of b)
+rows_same tasks words (Switch j) (Switch k) e = ap (λ n. row_of tasks words (Switches n)) (are_equal j k e)
 rows_same tasks words (Switch j) (At pc) e = absurd (false_true e)
-rows_same tasks words (At a) Rest e = absurd (false_true e)
+rows_same tasks words (Switch j) (Call f) e = absurd (false_true e)
 rows_same tasks words (At a) (Switch k) e = absurd (false_true e)
 rows_same tasks words (At a) (At b) e = ap (λ n. slice_index_or words n 0) (are_equal (a / 4) (b / 4) e)
+rows_same tasks words (At a) (Call f) e = absurd (false_true e)
+rows_same tasks words (Call f) (Switch k) e = absurd (false_true e)
+rows_same tasks words (Call f) (At pc) e = absurd (false_true e)
+rows_same tasks words (Call f) (Call g) e = refl
 
--- ---- one item for each home
+-- ---- one item for each spot
 
 turned : (m n : ℕ) → (m == n) ≡ false → (n == m) ≡ false
 turned m n e = by (n == m) refl where
@@ -146,39 +147,39 @@ turned m n e = by (n == m) refl where
   by false d = refl
   by true d = absurd (true_false (sym (is_equal m n (sym (are_equal n m d))) ∙ e))
 
-other_way : (a b : Home) → is_one a b ≡ false → is_one b a ≡ false
-other_way Rest Rest e = absurd (true_false e)
-other_way Rest (Switch k) e = refl
-other_way Rest (At pc) e = refl
-other_way (Switch j) Rest e = refl
+other_way : (a b : Spot) → is_one a b ≡ false → is_one b a ≡ false
 other_way (Switch j) (Switch k) e = turned j k e
 other_way (Switch j) (At pc) e = refl
-other_way (At a) Rest e = refl
+other_way (Switch j) (Call f) e = refl
 other_way (At a) (Switch k) e = refl
 other_way (At a) (At b) e = turned (a / 4) (b / 4) e
+other_way (At a) (Call f) e = refl
+other_way (Call f) (Switch k) e = refl
+other_way (Call f) (At pc) e = refl
+other_way (Call f) (Call g) e = turned f g e
 
 none_of : (s t : Bool) → (s || t) ≡ false → (s ≡ false) × (t ≡ false)
 none_of false false e = (refl, refl)
 none_of false true e = absurd (true_false e)
 none_of true t e = absurd (true_false e)
 
--- a home that isn't that of an item isn't in a bill with this item, if it isn't in the bill
-still_none : (h : Home) (bill : Bill) (x : Item) → has_home bill h ≡ false → is_one x.home h ≡ false → has_home (with_item bill x) h ≡ false
-still_none h [] x none ne = (λ i. ne i || false)
-still_none h (y ∷ bill) x none ne =
-    let parts = none_of (is_one y.home h) (has_home bill h) none in
-    by (is_one y.home x.home) parts.0 parts.1 (still_none h bill x parts.1 ne) where
-      by : (t : Bool) → is_one y.home h ≡ false → has_home bill h ≡ false → has_home (with_item bill x) h ≡ false →
-          has_home (cond t (spent_at y.home (told_plus y.cost x.cost) ∷ bill) (y ∷ with_item bill x)) h ≡ false
+-- a spot that isn't that of an item isn't in a bill with this item, if it isn't in the bill
+still_none : (s : Spot) (bill : Bill) (x : Item) → has_spot bill s ≡ false → is_one x.spot s ≡ false → has_spot (with_item bill x) s ≡ false
+still_none s [] x none ne = (λ i. ne i || false)
+still_none s (y ∷ bill) x none ne =
+    let parts = none_of (is_one y.spot s) (has_spot bill s) none in
+    by (is_one y.spot x.spot) parts.0 parts.1 (still_none s bill x parts.1 ne) where
+      by : (t : Bool) → is_one y.spot s ≡ false → has_spot bill s ≡ false → has_spot (with_item bill x) s ≡ false →
+          has_spot (cond t (spent_at y.spot (told_plus y.cost x.cost) ∷ bill) (y ∷ with_item bill x)) s ≡ false
       by true a b more = λ i. a i || b i
       by false a b more = λ i. a i || more i
 
 apart_more : (bill : Bill) (x : Item) → AreApart bill → AreApart (with_item bill x)
 apart_more [] x f = (refl, tt)
-apart_more (y ∷ bill) x f = by (is_one y.home x.home) refl (apart_more bill x f.1) where
-  by : (t : Bool) → is_one y.home x.home ≡ t → AreApart (with_item bill x) → AreApart (cond t (spent_at y.home (told_plus y.cost x.cost) ∷ bill) (y ∷ with_item bill x))
+apart_more (y ∷ bill) x f = by (is_one y.spot x.spot) refl (apart_more bill x f.1) where
+  by : (t : Bool) → is_one y.spot x.spot ≡ t → AreApart (with_item bill x) → AreApart (cond t (spent_at y.spot (told_plus y.cost x.cost) ∷ bill) (y ∷ with_item bill x))
   by true e more = f
-  by false e more = (still_none y.home bill x f.0 (other_way y.home x.home e), more)
+  by false e more = (still_none y.spot bill x f.0 (other_way y.spot x.spot e), more)
 
 all_apart : (bill more : Bill) → AreApart bill → AreApart (with_bill bill more)
 all_apart bill [] f = f
@@ -187,6 +188,6 @@ all_apart bill (x ∷ more) f = all_apart (with_item bill x) more (apart_more bi
 pub bills_are_gathered : BillsAreGathered
 bills_are_gathered bill = record {
   total = totals_kept bill;
-  rows = λ tasks words row. kept (is_in_row tasks words row) (λ a b e. ap (λ n. n == row) (rows_same tasks words a b e)) bill;
+  rows = λ tasks words row. kept (λ s. is_in_row tasks words row (home_of s)) (λ a b e. ap (λ n. n == row) (rows_same tasks words a b e)) bill;
   apart = all_apart [] bill tt;
 }

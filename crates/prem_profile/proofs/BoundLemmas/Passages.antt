@@ -18,7 +18,7 @@ use Rattle.prem_profile.specs.Bound.Pieces.{item}
 use Rattle.prem_profile.specs.Bound.Scopes.{rule_cost}
 use Rattle.prem_profile.specs.Bound.Statements.{CallBill, call_at, head_end, inner_end, over_place}
 use Rattle.prem_profile.specs.Bound.Passages.{Stubs, closed_bill, cut_bill, cycles_item, first_passage, marked_bill, marked_call, parted_bill, passage_bill, switch_item}
-use Rattle.prem_profile.specs.declared.home.Home.TheVariants.{At}
+use Rattle.prem_profile.specs.declared.bound.bill.Spot.TheVariants.{At}
 use Rattle.prem_profile.proofs.BoundLemmas.Sums.{Comes, both, led, less, none, recount, three}
 use Rattle.prem_profile.proofs.BoundLemmas.Charged.{jump_first, own_comes, rule_same, scope_comes_with}
 use Rattle.prem_profile.proofs.BoundLemmas.Statements.{choice_comes, least_comes, turns_come}

@@ -16,6 +16,7 @@ use Rattle.prem_profile.specs.Bound.Profile.{AreShort, BoundsAddUp, joined, set_
 use Rattle.prem_profile.proofs.Reading.{profiles_are_read}
 use Rattle.prem_profile.proofs.Adding.{lines_add_up}
 use Rattle.prem_profile.proofs.RowsAdd.{rows_long}
+use Rattle.prem_profile.proofs.BillLemmas.Lean.{set_lean, told_all}
 use Rattle.prem_profile.proofs.BoundLemmas.Sums.{Comes, both, none, on_append}
 use Rattle.prem_profile.proofs.BoundLemmas.Tasks.{bills_add_up}
 use Rattle.prem_profile.proofs.BoundLemmas.Booked.{bill_rows_add_up}
@@ -49,6 +50,7 @@ bounds_add_up sources strips size p tasks =
       sums = total bill;
       read = profiles_are_read sources strips (total bill) costs no_calls_at;
       lines = lines_add_up sources strips costs no_calls_at (rows_long (bill_row tasks_told (rows_of tasks_told size strips) bill) 0 rows) ∙ bill_rows_add_up tasks_told size strips bill;
+      items = λ plant. let fill = plant.fill.0 in let back = plant.back.0 in told_all bill (set_lean p (omega (arith, fill, back)) 0 tasks);
       told = (all_told p 0 tasks).is;
       exact = all_come p 0 tasks;
     }

@@ -3,6 +3,7 @@ use Rattle.std.specs.Prelude.{codes, ◌^◌}
 use Rattle.std.proofs.Common.{◌≡◌, refl, ℕ, ◌+◌, ◌∙◌, arith, List, [], ◌∷◌, map, Option, Some, None, pos, true}
 use Rattle.prem_word.specs.declared.kind.BinOp.TheVariants.{Add as AddOp}
 use Rattle.prem_plant.specs.Ranges.{default_plant as plant}
+use Rattle.prem_plant.proofs.Powers.{default_is_plant}
 use Rattle.prem_isa.specs.declared.instr.Instr.{Instr}
 use Rattle.prem_isa.specs.declared.instr.Instr.TheVariants.{OpImm, PmOut}
 use Rattle.prem_isa.specs.declared.instr.AluOp.TheVariants.{Add}
@@ -15,14 +16,15 @@ use Rattle.prem_layout.specs.Template.Terms.{nonzero}
 use Rattle.prem_layout.proofs.Samples.{m_text, m_turns}
 use Rattle.prem_layout.proofs.Tasks.{coded, placed}
 use Rattle.prem_profile.specs.declared.cost.Cost.{Cost}
-use Rattle.prem_profile.specs.declared.home.Home.{Home}
-use Rattle.prem_profile.specs.declared.home.Home.TheVariants.{Rest, Switch, At}
 use Rattle.prem_profile.specs.declared.bound.bill.Item.{Item}
-use Rattle.prem_profile.specs.Bound.Bills.{Bill, gathered, spent_at}
+use Rattle.prem_profile.specs.declared.bound.bill.Spot.{Spot}
+use Rattle.prem_profile.specs.declared.bound.bill.Spot.TheVariants.{Switch, At, Call}
+use Rattle.prem_profile.specs.Bound.Bills.{Bill, cycles_on, gathered, spent_at}
 use Rattle.prem_profile.specs.Bound.Pieces.{bill_from}
 use Rattle.prem_profile.specs.Bound.Scopes.{rule_cost}
 use Rattle.prem_profile.specs.Bound.Booked.{bill_row, bills_from}
-use Rattle.prem_profile.specs.Bound.Profile.{AreShort, set_bill, wcets}
+use Rattle.prem_profile.specs.Bound.Profile.{AreShort, AreTold, set_bill, wcets}
+use Rattle.prem_profile.specs.Bound.Spread.{spread_path}
 use Rattle.prem_profile.specs.declared.callgrind.Source.{Source}
 use Rattle.prem_profile.specs.Account.{each_row}
 use Rattle.prem_profile.specs.Strips.{Strip, first_row, rows_of, strip_words}
@@ -32,14 +34,14 @@ use Rattle.prem_profile.specs.Entries.{profile_entries}
 use Rattle.prem_profile.specs.Lines.Table.{at_line}
 use Rattle.prem_profile.proofs.BoundLemmas.Profile.{bounds_add_up}
 
--- the address of an item's word, none of a switch; its cycles; and how many lines it may bring in
-abbrev place_of : Home → Option ℕ
-place_of Rest = None
+-- the address of an item's word, none of a switch or of a call; its cycles; and how many lines it may bring in
+abbrev place_of : Spot → Option ℕ
 place_of (Switch k) = None
 place_of (At pc) = Some pc
+place_of (Call f) = None
 
 abbrev told : Bill → List (Option ℕ × (ℕ × ℕ))
-told bill = map (λ (x : Item). (place_of x.home, (x.cost.cycles, x.cost.misses))) bill
+told bill = map (λ (x : Item). (place_of x.spot, (x.cost.cycles, x.cost.misses))) bill
 
 abbrev bills : List Coded → List (List (Option ℕ × (ℕ × ℕ)))
 bills tasks = map told (bills_from plant 0 (placed plant tasks))
@@ -48,10 +50,10 @@ bills tasks = map told (bills_from plant 0 (placed plant tasks))
 abbrev sum_text : ProgramText
 sum_text = function (at 1 6) None Void (codes "job") [] [] (statements (output (at 1 18) (binary (at 1 24) AddOp (int 1 22 2) (int 1 26 3)) ∷ [])) None ∷ []
 
--- One scope: three lines of code and one of the stack; then the start's jump, `job` from 8 on, and the job's end. In all 115 cycles.
+-- One scope: three lines of code and one of the stack; then the start's jump, the job's end, and `job` from 8 on, which the start calls. In all 115 cycles.
 sum_bill : bills (coded (codes "sum") 1000 1 sum_text [] ∷ [])
-    ≡ ((None, (20, 0)) ∷ (Some 0, (80, 4)) ∷ (Some 0, (2, 0)) ∷ (Some 8, (1, 0)) ∷ (Some 12, (2, 0)) ∷ (Some 16, (1, 0)) ∷ (Some 20, (1, 0)) ∷ (Some 24, (1, 0))
-    ∷ (Some 28, (1, 0)) ∷ (Some 32, (2, 0)) ∷ (Some 36, (1, 0)) ∷ (Some 40, (2, 0)) ∷ (Some 4, (1, 0)) ∷ [])
+    ≡ ((None, (20, 0)) ∷ (Some 0, (80, 4)) ∷ (Some 0, (2, 0)) ∷ (Some 4, (1, 0)) ∷ (Some 8, (1, 0)) ∷ (Some 12, (2, 0)) ∷ (Some 16, (1, 0)) ∷ (Some 20, (1, 0))
+    ∷ (Some 24, (1, 0)) ∷ (Some 28, (1, 0)) ∷ (Some 32, (2, 0)) ∷ (Some 36, (1, 0)) ∷ (Some 40, (2, 0)) ∷ [])
     ∷ []
 sum_bill = refl
 
@@ -92,6 +94,10 @@ marked_short = (let is = marked_wcets in omega (arith, is), tt)
 marked_exact : (bounds_add_up (marked_source ∷ []) marked_strips 68 plant marked_task).sums.cycles ≡ 835
 marked_exact = (bounds_add_up (marked_source ∷ []) marked_strips 68 plant marked_task).exact marked_short ∙ marked_wcets
 
+-- and to the premise that each item has lines of its own
+marked_told : AreTold (set_bill plant marked_task)
+marked_told = (bounds_add_up (marked_source ∷ []) marked_strips 68 plant marked_task).items default_is_plant
+
 abbrev line_and_cycles : List Entry → List (ℕ × ℕ)
 line_and_cycles entries = map (λ (e : Entry). (e.line, e.cost.cycles)) entries
 
@@ -130,13 +136,35 @@ three_turns = refl
 abbrev cost : (cycles : ℕ) → Cost
 cost n = record { instructions = 1; cycles = n; misses = 1; backs = 0 }
 
--- two words twice, of which the first one comes to more than is told, and the switches to two tasks
+-- two words twice, of which the first one comes to more than is told, the switches to two tasks, and calls of two functions
 abbrev twice : Bill
 twice =
-    spent_at (At 100) (cost (2 ^ 41)) ∷ spent_at (Switch 3) (cost 20) ∷ spent_at (At 104) (cost 2) ∷ spent_at (At 100) (cost 5)
-    ∷ spent_at (Switch 4) (cost 20) ∷ spent_at (Switch 3) (cost 20) ∷ spent_at (At 104) (cost 7) ∷ []
+    spent_at (At 100) (cost (2 ^ 41)) ∷ spent_at (Switch 3) (cost 20) ∷ spent_at (At 104) (cost 2) ∷ spent_at (At 100) (cost 5) ∷ spent_at (Call 3) (cost 8)
+    ∷ spent_at (Switch 4) (cost 20) ∷ spent_at (Switch 3) (cost 20) ∷ spent_at (Call 4) (cost 9) ∷ spent_at (At 104) (cost 7) ∷ spent_at (Call 3) (cost 8) ∷ []
 
 gathered_once : gathered twice
     ≡ spent_at (At 100) (record { instructions = 2; cycles = 2 ^ 41; misses = 2; backs = 0 }) ∷ spent_at (Switch 3) (record { instructions = 2; cycles = 40; misses = 2; backs = 0 })
-    ∷ spent_at (At 104) (record { instructions = 2; cycles = 9; misses = 2; backs = 0 }) ∷ spent_at (Switch 4) (cost 20) ∷ []
+    ∷ spent_at (At 104) (record { instructions = 2; cycles = 9; misses = 2; backs = 0 }) ∷ spent_at (Call 3) (record { instructions = 2; cycles = 16; misses = 2; backs = 0 })
+    ∷ spent_at (Switch 4) (cost 20) ∷ spent_at (Call 4) (cost 9) ∷ []
 gathered_once = refl
+
+-- ---- calls that are spread
+
+abbrev calls : (function often cycles : ℕ) → Item
+calls f n cycles = spent_at (Call f) (record { instructions = n; cycles = cycles; misses = 0; backs = 0 })
+
+-- the first one takes 2 cycles, the second one 3 and two calls of the first one, so 7, and the third one isn't called
+abbrev functions : List Bill
+functions = (spent_at (At 8) (cost 2) ∷ []) ∷ (spent_at (At 16) (cost 3) ∷ calls 0 2 4 ∷ []) ∷ (spent_at (At 24) (cost 9) ∷ []) ∷ []
+
+-- two calls of the second one, and one of the first one
+abbrev calling_path : Bill
+calling_path = spent_at (At 100) (cost 1) ∷ calls 1 2 14 ∷ calls 0 1 2 ∷ []
+
+-- the word of the path, the second one twice, and the first one five times
+path_spread : told (spread_path functions calling_path) ≡ (Some 100, (1, 1)) ∷ (Some 16, (6, 2)) ∷ (Some 8, (10, 5)) ∷ []
+path_spread = refl
+
+-- it takes as many cycles as the path
+path_kept : (cycles_on (spread_path functions calling_path) ≡ 17) × (cycles_on calling_path ≡ 17)
+path_kept = (refl, refl)

@@ -15,8 +15,8 @@ use Rattle.prem_wcet_laws.specs.Weights.{PlaceWeight, weight_from, jump_from, we
 use Rattle.prem_wcet.proofs.AlikeScopes.{alike_max, alike_min, alike_product, alike_sum}
 use Rattle.prem_profile.specs.declared.bound.bill.Item.{Item}
 use Rattle.prem_profile.specs.Bound.Bills.{Bill, bill_times, cheaper, cycles_on, dearer, gathered}
-use Rattle.prem_profile.specs.Bound.Pieces.{PlaceCost, bill_at, bill_from, item, jump_item, part_bill, straight_bill}
-use Rattle.prem_profile.specs.Bound.Scopes.{bills_behind, function_from}
+use Rattle.prem_profile.specs.Bound.Pieces.{PlaceCost, bill_at, bill_from, call_items, item, jump_item, part_bill, straight_bill}
+use Rattle.prem_profile.specs.Bound.Scopes.{bills_behind, cycles_of}
 use Rattle.prem_profile.proofs.BoundLemmas.Gathered.{totals_kept}
 
 -- ---- numbers
@@ -60,7 +60,7 @@ both {a} {b} {m} {n} c d = record { is = ap clipped (on_append a b) ∙ alike_su
 pub three : {a b c : Bill} {k m n : ℕ} → Comes a k → Comes b m → Comes c n → Comes (a ++ (b ++ c)) (k + m + n)
 three {a} {b} {c} {k} {m} {n} x y z = recount (k + m + n) (both x (both y z)) (same_then k m n)
 
-twice : (k : ℕ) → clipped (clipped k) ≡ clipped k
+pub twice : (k : ℕ) → clipped (clipped k) ≡ clipped k
 twice k = omega arith
 
 on_times : (n : ℕ) (a : Bill) → clipped (cycles_on (bill_times n a)) ≡ clipped (n * cycles_on a)
@@ -102,7 +102,7 @@ on_cheaper a b = by (nat_le (clipped (cycles_on a)) (clipped (cycles_on b))) ref
 pub less : {a b : Bill} {m n : ℕ} → Comes a m → Comes b n → Comes (cheaper a b) (min m n)
 less {a} {b} {m} {n} c d = record { is = on_cheaper a b ∙ alike_min (cycles_on a) m (cycles_on b) n c.is d.is }
 
--- of a bill with one item for each home
+-- of a bill with one item for each spot
 pub gather : {a : Bill} {m : ℕ} → Comes a m → Comes (gathered a) m
 gather {a} {m} c = record { is = (let kept = totals_kept a in kept.cycles) ∙ c.is }
 
@@ -126,6 +126,13 @@ coming_more [] [] b n h one = (one, tt)
 coming_more [] (m ∷ ns) b n h one = absurd h
 coming_more (c ∷ bs) [] b n h one = absurd h
 coming_more (c ∷ bs) (m ∷ ns) b n h one = (h.0, coming_more bs ns b n h.1 one)
+
+-- what each takes, as it is told
+pub cycles_at : (bs : List Bill) (k : ℕ) → weight_at (cycles_of bs) k ≡ clipped (cycles_on (bill_at bs k))
+cycles_at [] zero = refl
+cycles_at [] (suc k) = refl
+cycles_at (b ∷ bs) zero = refl
+cycles_at (b ∷ bs) (suc k) = cycles_at bs k
 
 as_long : (bs : List Bill) (ns : List ℕ) → AreComing bs ns → length bs ≡ length ns
 as_long [] [] h = refl
@@ -192,12 +199,19 @@ module _ (w : PlaceWeight) (c : PlaceCost) (same : (at : ℕ) (i : Instr) → (c
 
   -- ---- called parts
 
+  -- a call takes as many cycles as it is told with
+  call_comes : (f n m : ℕ) → clipped n ≡ clipped m → Comes (call_items f n) m
+  call_comes f zero m e = record { is = e }
+  call_comes f (suc n) m e = record { is = ap clipped (bare (suc n)) ∙ e } where
+    bare : (k : ℕ) → k + 0 ≡ k
+    bare k = omega arith
+
   pub part_comes : (functions : ℕ) (bills : List Bill) (known : List ℕ) → AreComing bills known → (part : ℕ) →
-      Comes (part_bill functions bills part) (part_weight functions (weight_at known) (λ k. 0) part)
+      Comes (part_bill functions (cycles_of bills) part) (part_weight functions (weight_at known) (λ k. 0) part)
   part_comes functions bills known h zero = none
   part_comes functions bills known h (suc n) = by (nat_lt n functions) where
-    by : (t : Bool) → Comes (cond t (bill_at bills n) []) (cond t (weight_at known n) 0)
-    by true = coming_at bills known h n
+    by : (t : Bool) → Comes (cond t (call_items n (weight_at (cycles_of bills) n)) []) (cond t (weight_at known n) 0)
+    by true = call_comes n (weight_at (cycles_of bills) n) (weight_at known n) (ap clipped (cycles_at bills n) ∙ twice (cycles_on (bill_at bills n)) ∙ (coming_at bills known h n).is)
     by false = none
 
   pub known_come : (functions : ℕ) (places : ℕ → ℕ) (bills : List Bill) (known : List ℕ) (fs : List Fact) → AreComing bills known →
@@ -206,21 +220,21 @@ module _ (w : PlaceWeight) (c : PlaceCost) (same : (at : ℕ) (i : Instr) → (c
   known_come functions places bills known (f ∷ fs) h =
       let calls : ℕ → ℕ = part_weight functions (weight_at known) (λ k. 0) in
       let at : ℕ = places (code_part (length bills)) in
-      let next : Bill = function_from c functions bills at f.pieces in
+      let next : Bill = bill_from c (part_bill functions (cycles_of bills)) at f.pieces in
       let n : ℕ = weighted_from w calls (places (code_part (length known))) f.pieces in
       known_come functions places (bills ++ next ∷ []) (known ++ n ∷ []) fs
       (coming_more bills known next n h
-      (recount n (gather (pieces_come (part_bill functions bills) calls (part_comes functions bills known h) at f.pieces))
+      (recount n (pieces_come (part_bill functions (cycles_of bills)) calls (part_comes functions bills known h) at f.pieces)
       (ap (λ k. weighted_from w calls (places (code_part k)) f.pieces) (as_long bills known h))))
 
 -- no function is called
-none_at : (n : ℕ) → Comes (bill_at [] n) 0
+none_at : (n : ℕ) → Comes (call_items n (weight_at [] n)) 0
 none_at zero = none
 none_at (suc n) = none
 
 pub no_part : (part : ℕ) → Comes (part_bill 0 [] part) 0
 no_part zero = none
 no_part (suc n) = by (nat_lt n 0) where
-  by : (t : Bool) → Comes (cond t (bill_at [] n) []) 0
+  by : (t : Bool) → Comes (cond t (call_items n (weight_at [] n)) []) 0
   by true = none_at n
   by false = none

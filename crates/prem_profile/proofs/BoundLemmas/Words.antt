@@ -9,8 +9,8 @@ use Rattle.prem_syntax.proofs.Samples.{at, int, statements, one_name, parameter,
 use Rattle.prem_layout.specs.Placed.{Coded}
 use Rattle.prem_layout.proofs.Tasks.{coded, placed}
 use Rattle.prem_profile.specs.declared.cost.Cost.{Cost}
-use Rattle.prem_profile.specs.declared.home.Home.{Home}
-use Rattle.prem_profile.specs.declared.home.Home.TheVariants.{Rest, Switch, At}
+use Rattle.prem_profile.specs.declared.bound.bill.Spot.{Spot}
+use Rattle.prem_profile.specs.declared.bound.bill.Spot.TheVariants.{Switch, At, Call}
 use Rattle.prem_profile.specs.Account.{with_cost}
 use Rattle.prem_profile.specs.Spent.{no_cost}
 use Rattle.prem_profile.specs.Bound.Bills.{Bill}
@@ -18,14 +18,14 @@ use Rattle.prem_profile.specs.Bound.Profile.{set_bill}
 
 -- ---- instructions, cycles and misses of each of so many words
 
-abbrev with_item : List Cost → Home → Cost → List Cost
-with_item words Rest c = words
+abbrev with_item : List Cost → Spot → Cost → List Cost
 with_item words (Switch k) c = words
 with_item words (At pc) c = with_cost words (pc / 4) c
+with_item words (Call f) c = words
 
 abbrev words_of : List Cost → Bill → List Cost
 words_of words [] = words
-words_of words (x ∷ bill) = words_of (with_item words x.home x.cost) bill
+words_of words (x ∷ bill) = words_of (with_item words x.spot x.cost) bill
 
 abbrev told : Cost → ℕ × (ℕ × ℕ)
 told c = (c.instructions, (c.cycles, c.misses))

@@ -4,24 +4,24 @@ use Rattle.prem_plant.specs.declared.plant.Plant.{Plant}
 use Rattle.prem_layout.specs.Placed.{Placed}
 use Rattle.prem_bounds.specs.Scale.{clipped}
 use Rattle.prem_wcet_laws.specs.Wcet.{wcet_of}
+use Rattle.prem_profile.specs.declared.bound.bill.Spot.{Spot}
 use Rattle.prem_profile.specs.declared.cost.Cost.{Cost}
-use Rattle.prem_profile.specs.declared.home.Home.{Home}
 use Rattle.prem_profile.specs.Spent.{no_cost, plus, where_so}
 use Rattle.prem_profile.specs.Account.{costs_sum, each_row, is_in_row}
 use Rattle.prem_profile.specs.Strips.{Strip, first_row, rows_of, strip_words}
-use Rattle.prem_profile.specs.Bound.Bills.{Bill, cycles_on, total}
+use Rattle.prem_profile.specs.Bound.Bills.{Bill, cycles_on, home_of, total}
 use Rattle.prem_profile.specs.Bound.Tasks.{task_bill}
 
 -- ---- rows
 
--- the items whose homes are so
-abbrev pub spent_on : (Home → Bool) → Bill → Cost
+-- the items whose spots are so
+abbrev pub spent_on : (Spot → Bool) → Bill → Cost
 spent_on is_so [] = no_cost
-spent_on is_so (x ∷ xs) = plus (where_so (is_so x.home) x.cost) (spent_on is_so xs)
+spent_on is_so (x ∷ xs) = plus (where_so (is_so x.spot) x.cost) (spent_on is_so xs)
 
 -- by the row of each word of memory
 abbrev pub bill_row : (tasks : ℕ) → (words : List ℕ) → Bill → ℕ → Cost
-bill_row tasks words bill row = spent_on (is_in_row tasks words row) bill
+bill_row tasks words bill row = spent_on (λ s. is_in_row tasks words row (home_of s)) bill
 
 -- all rows of a bill come to the bill
 abbrev pub BillRowsAddUp : Type 0

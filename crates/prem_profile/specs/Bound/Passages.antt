@@ -8,10 +8,10 @@ use Rattle.prem_layout.specs.Plans.{Plan}
 use Rattle.prem_wcet_laws.specs.Scopes.{Scene, code_ranges}
 use Rattle.prem_wcet_laws.specs.Parted.{Edge, by_cut, no_edge}
 use Rattle.prem_wcet.specs.Outlines.{Outline, ended, plain, calling, choice, turning, between, code_of, cut_in, data_between, edge_in, first_place, front_in, inner_place, landing_in, second_place}
-use Rattle.prem_profile.specs.declared.home.Home.{Home}
-use Rattle.prem_profile.specs.declared.home.Home.TheVariants.{At, Switch}
 use Rattle.prem_profile.specs.declared.bound.bill.Item.{Item}
-use Rattle.prem_profile.specs.Bound.Bills.{Bill, cheaper}
+use Rattle.prem_profile.specs.declared.bound.bill.Spot.{Spot}
+use Rattle.prem_profile.specs.declared.bound.bill.Spot.TheVariants.{At, Switch}
+use Rattle.prem_profile.specs.Bound.Bills.{Bill, cheaper, spent_at}
 use Rattle.prem_profile.specs.Bound.Pieces.{item}
 use Rattle.prem_profile.specs.Bound.Scopes.{own_bill, own_jump_item, rule_cost, scope_bill_with}
 use Rattle.prem_profile.specs.Bound.Statements.{CallBill, call_at, choice_bill, head_end, inner_end, least_bill, over_place, turns_bill}
@@ -24,8 +24,8 @@ pub record Stubs : Type 0 where
   pub places : ℕ → ℕ
 
 -- cycles in which no instruction is counted
-abbrev pub cycles_item : Home → ℕ → Item
-cycles_item h n = record { home = h; cost = record { instructions = 0; cycles = n; misses = 0; backs = 0 } }
+abbrev pub cycles_item : Spot → ℕ → Item
+cycles_item s n = spent_at s (record { instructions = 0; cycles = n; misses = 0; backs = 0 })
 
 -- one switch to a task
 abbrev pub switch_item : Plant → (task : ℕ) → Item

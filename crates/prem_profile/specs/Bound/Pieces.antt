@@ -4,11 +4,12 @@ use Rattle.prem_isa.specs.declared.instr.Instr.{Instr}
 use Rattle.prem_isa.specs.declared.instr.Instr.TheVariants.{Lui, Jal, OpImm}
 use Rattle.prem_isa.specs.declared.instr.AluOp.TheVariants.{Add}
 use Rattle.prem_isa.specs.Decode.{cost_of}
+use Rattle.prem_layout.specs.Bounds.{weight_at}
 use Rattle.prem_asm.specs.Pieces.{Pieces, no_pieces, straight, address_of, either, repeat, call_to, branch_of, skip_words, skip_at, other_at, either_end, test_at, back_at, repeat_end}
 use Rattle.prem_profile.specs.declared.cost.Cost.{Cost}
-use Rattle.prem_profile.specs.declared.home.Home.TheVariants.{At}
 use Rattle.prem_profile.specs.declared.bound.bill.Item.{Item}
-use Rattle.prem_profile.specs.Bound.Bills.{Bill, bill_times, dearer}
+use Rattle.prem_profile.specs.declared.bound.bill.Spot.TheVariants.{At, Call}
+use Rattle.prem_profile.specs.Bound.Bills.{Bill, bill_times, dearer, spent_at}
 
 -- what an instruction at a place costs
 abbrev pub PlaceCost : Type 0
@@ -19,7 +20,7 @@ abbrev pub instruction_cost : (miss lines : ℕ) → Instr → Cost
 instruction_cost miss lines i = record { instructions = 1; cycles = cost_of i + lines * miss; misses = lines; backs = lines }
 
 abbrev pub item : PlaceCost → (at : ℕ) → Instr → Item
-item c at i = record { home = At at; cost = c at i }
+item c at i = spent_at (At at) (c at i)
 
 -- a jump, whose register and offset don't add to its cost
 abbrev pub jump_item : PlaceCost → (at : ℕ) → Item
@@ -30,7 +31,7 @@ abbrev pub straight_bill : PlaceCost → (at : ℕ) → List Instr → Bill
 straight_bill c at [] = []
 straight_bill c at (i ∷ is) = item c at i ∷ straight_bill c (at + 4) is
 
--- pieces, with the bill of each called part
+-- pieces, with what is billed for each called part
 abbrev pub bill_from : PlaceCost → (calls : ℕ → Bill) → (at : ℕ) → Pieces → Bill
 bill_from c calls at no_pieces = []
 bill_from c calls at (straight code rest) = straight_bill c at code ++ bill_from c calls (at + 4 * length code) rest
@@ -60,7 +61,12 @@ has_call (call_to link part rest) = true
 abbrev pub bill_at : List Bill → ℕ → Bill
 bill_at bills n = slice_index_or bills n []
 
--- those of the code of so many functions; no stub is called
-abbrev pub part_bill : (functions : ℕ) → List Bill → ℕ → Bill
-part_bill functions bills zero = []
-part_bill functions bills (suc n) = if nat_lt n functions then bill_at bills n else []
+-- one call of a function that takes so many cycles; one that takes none isn't billed
+abbrev pub call_items : (function cycles : ℕ) → Bill
+call_items f zero = []
+call_items f (suc n) = spent_at (Call f) (record { instructions = 1; cycles = suc n; misses = 0; backs = 0 }) ∷ []
+
+-- of the code of so many functions, each of which takes so many cycles; no stub is called
+abbrev pub part_bill : (functions : ℕ) → (cycles : List ℕ) → ℕ → Bill
+part_bill functions cycles zero = []
+part_bill functions cycles (suc n) = if nat_lt n functions then call_items n (weight_at cycles n) else []

@@ -1,4 +1,4 @@
--- What instructions cost in memory, and the bills of functions.
+-- What instructions and calls cost in memory, and the bills of functions.
 use Rattle.std.specs.Prelude.{◌≤◌, ℕ, ◌+◌, ◌/◌, Vec, List, [], ◌∷◌, map}
 use Rattle.std.specs.Global.{Global}
 use Rattle.prem_isa.specs.declared.instr.Instr.{Instr}
@@ -12,8 +12,8 @@ use Rattle.prem_profile.specs.declared.bound.pieces.Costing.{Costing}
 use Rattle.prem_profile.specs.declared.bound.pieces.Costing.TheVariants.{Rule, Scope}
 use Rattle.prem_profile.specs.declared.bound.pieces.Prices.{Prices}
 use Rattle.prem_profile.specs.Bound.Bills.{Bill}
-use Rattle.prem_profile.specs.Bound.Pieces.{PlaceCost, bill_from, instruction_cost, part_bill}
-use Rattle.prem_profile.specs.Bound.Scopes.{bills_behind, crowd_lines, lines_item, rule_misses}
+use Rattle.prem_profile.specs.Bound.Pieces.{PlaceCost, instruction_cost, part_bill}
+use Rattle.prem_profile.specs.Bound.Scopes.{bills_behind, crowd_lines, lines_item, path_with, rule_misses}
 
 -- ---- what instructions cost
 
@@ -49,13 +49,13 @@ abbrev pub costs_by : Prices → PlaceCost
 costs_by prices = cost_by prices.costing
 
 abbrev pub calls_by : Prices → ℕ → Bill
-calls_by prices = part_bill prices.count (bills_in prices.functions.now)
+calls_by prices = part_bill prices.count prices.cycles.now
 
 -- ---- scopes
 
 -- a path where a collection has room or hasn't
 abbrev pub crowd_path : Scene → Crowd → (at : ℕ) → Pieces → Bill
-crowd_path e c at ps = bill_from (crowd_cost c) (part_bill e.functions (bills_behind (crowd_cost c) e.functions e.places [] e.facts)) at ps
+crowd_path e c at ps = path_with (crowd_cost c) e.functions (bills_behind (crowd_cost c) e.functions e.places [] e.facts) at ps
 
 abbrev pub crowd_bill : Scene → Crowd → (at : ℕ) → Pieces → Bill
 crowd_bill e c at ps = lines_item e.plant at c.held ∷ crowd_path e c at ps

@@ -1,6 +1,7 @@
 -- The profile of a set's bound: one job of each task on the path that counts most, in callgrind's format.
-use Rattle.std.specs.Prelude.{◌≡◌, ◌≤◌, ◌^◌, ℕ, ◌+◌, List, [], ◌∷◌, ◌++◌, length}
+use Rattle.std.specs.Prelude.{◌≡◌, ◌≤◌, ◌^◌, ℕ, ◌+◌, false, List, [], ◌∷◌, ◌++◌, length}
 use Rattle.prem_plant.specs.declared.plant.Plant.{Plant}
+use Rattle.prem_plant.specs.Ranges.{IsPlant}
 use Rattle.prem_layout.specs.Placed.{Placed}
 use Rattle.prem_bounds.specs.Scale.{clipped}
 use Rattle.prem_wcet_laws.specs.Wcet.{wcet_of}
@@ -11,7 +12,7 @@ use Rattle.prem_profile.specs.Strips.{Strip, first_row, rows_of, strip_words}
 use Rattle.prem_profile.specs.Grammar.{Entry, IsProfile}
 use Rattle.prem_profile.specs.Callgrind.{no_calls_at, profile_text}
 use Rattle.prem_profile.specs.Entries.{entries_sum}
-use Rattle.prem_profile.specs.Bound.Bills.{Bill, total}
+use Rattle.prem_profile.specs.Bound.Bills.{Bill, is_call, total}
 use Rattle.prem_profile.specs.Bound.Booked.{bill_row, bills_from}
 
 abbrev pub joined : List Bill → Bill
@@ -37,12 +38,18 @@ abbrev pub AreShort : Plant → List Placed → Type 0
 AreShort p [] = Unit {0}
 AreShort p (t ∷ ts) = (wcet_of p t.plans t.task.program t.at ≤ 2 ^ 40) × AreShort p ts
 
+-- each item is of a switch or of an instruction, and so has lines of its own: no function stands for its items
+abbrev pub AreTold : Bill → Type 0
+AreTold [] = Unit {0}
+AreTold (x ∷ bill) = (is_call x.spot ≡ false) × AreTold bill
+
 -- a text is a profile by the grammar, whose lines add up to what jobs take at most: as numbers are told, and exactly where each is short
 pub record IsBound (text : List ℕ) (p : Plant) (tasks : List Placed) : Type 0 where
   pub entries : List Entry
   pub sums : Cost
   pub read : IsProfile text entries sums
   pub lines : entries_sum entries ≡ sums
+  pub items : IsPlant p → AreTold (set_bill p tasks)
   pub told : clipped sums.cycles ≡ clipped (wcets p tasks)
   pub exact : AreShort p tasks → sums.cycles ≡ wcets p tasks
 

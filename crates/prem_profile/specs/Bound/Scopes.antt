@@ -1,5 +1,5 @@
 -- The bills of code as one scope, which has the lines that it brings in at its first word, and of code by the rule.
-use Rattle.std.specs.Prelude.{ℕ, ◌+◌, ◌*◌, ◌/◌, Bool, if◌then◌else◌, List, [], ◌∷◌, ◌++◌, length}
+use Rattle.std.specs.Prelude.{ℕ, ◌+◌, ◌*◌, ◌/◌, Bool, if◌then◌else◌, List, [], ◌∷◌, ◌++◌, length, map}
 use Rattle.std.specs.List.{list_all}
 use Rattle.prem_plant.specs.declared.plant.Plant.{Plant}
 use Rattle.prem_isa.specs.declared.instr.Instr.{Instr}
@@ -8,11 +8,13 @@ use Rattle.prem_asm.specs.Pieces.{Pieces, branch_of}
 use Rattle.prem_layout.specs.Template.Terms.{nonzero}
 use Rattle.prem_layout.specs.Bounds.{line_cost}
 use Rattle.prem_layout.specs.Parts.{code_part}
+use Rattle.prem_bounds.specs.Scale.{clipped}
 use Rattle.prem_wcet_laws.specs.Scopes.{Span, Fact, Scene, is_roomy, roomy_lines, lines_in, data_lines}
-use Rattle.prem_profile.specs.declared.home.Home.TheVariants.{At}
 use Rattle.prem_profile.specs.declared.bound.bill.Item.{Item}
-use Rattle.prem_profile.specs.Bound.Bills.{Bill, gathered}
+use Rattle.prem_profile.specs.declared.bound.bill.Spot.TheVariants.{At}
+use Rattle.prem_profile.specs.Bound.Bills.{Bill, cycles_on, spent_at}
 use Rattle.prem_profile.specs.Bound.Pieces.{PlaceCost, instruction_cost, item, jump_item, bill_from, part_bill}
+use Rattle.prem_profile.specs.Bound.Spread.{spread_path}
 
 -- ---- as one scope
 
@@ -29,23 +31,25 @@ scope_misses p lines data_roomy at i = crowd_lines (is_roomy p lines (at / p.lin
 abbrev pub scope_cost : Plant → (lines : List ℕ) → (data_roomy : Bool) → PlaceCost
 scope_cost p lines data_roomy at i = instruction_cost (line_cost p) (scope_misses p lines data_roomy at i) i
 
--- of a function whose code is at a place, which has one item for each home, where those before it are known
-abbrev pub function_from : PlaceCost → (functions : ℕ) → List Bill → (at : ℕ) → Pieces → Bill
-function_from c functions known at ps = gathered (bill_from c (part_bill functions known) at ps)
+abbrev pub cycles_of : List Bill → List ℕ
+cycles_of bills = map (λ (b : Bill). clipped (cycles_on b)) bills
 
--- the bills of functions in the order of the text, behind those that are known
+-- the paths of functions in the order of the text, behind those that are known
 abbrev pub bills_behind : PlaceCost → (functions : ℕ) → (places : ℕ → ℕ) → List Bill → List Fact → List Bill
 bills_behind c functions places known [] = known
 bills_behind c functions places known (f ∷ fs) =
-    bills_behind c functions places (known ++ function_from c functions known (places (code_part (length known))) f.pieces ∷ []) fs
+    bills_behind c functions places (known ++ bill_from c (part_bill functions (cycles_of known)) (places (code_part (length known))) f.pieces ∷ []) fs
 
--- the dearest path
+-- the dearest path at a place, with the items of the functions that it calls
+abbrev pub path_with : PlaceCost → (functions : ℕ) → List Bill → (at : ℕ) → Pieces → Bill
+path_with c functions bills at ps = spread_path bills (bill_from c (part_bill functions (cycles_of bills)) at ps)
+
 abbrev pub path_bill : Scene → PlaceCost → (at : ℕ) → Span → Bill
-path_bill e c at s = bill_from c (part_bill e.functions (bills_behind c e.functions e.places [] e.facts)) at s.pieces
+path_bill e c at s = path_with c e.functions (bills_behind c e.functions e.places [] e.facts) at s.pieces
 
 -- so many lines that are brought in, each behind one that is written back
 abbrev pub lines_item : Plant → (at lines : ℕ) → Item
-lines_item p at lines = record { home = At at; cost = record { instructions = 0; cycles = lines * line_cost p; misses = lines; backs = lines } }
+lines_item p at lines = spent_at (At at) (record { instructions = 0; cycles = lines * line_cost p; misses = lines; backs = lines })
 
 -- with these lines, of which these are the data's
 abbrev pub scope_bill_with : Scene → (at : ℕ) → Span → (lines held : List ℕ) → Bill

@@ -29,7 +29,7 @@ body_begin e f at = at + size_of (entry e f).pieces
 abbrev pub body_end : Scene → Routine → (at : ℕ) → ℕ
 body_end e f at = body_begin e f at + size_of (steps_code e.parts (locals_of f) f.body)
 
--- a call of a function whose code is at a place, behind its jump, which has one item for each home
+-- a call of a function whose code is at a place, behind its jump, which has one item for each spot
 abbrev pub function_bill : Scene → Stubs → List CallBill → Routine → (at : ℕ) → CallBill
 function_bill e stubs known f at = record {
   least = gathered (cheaper (scope_bill e at (function_span e f))

@@ -1,25 +1,48 @@
-// Bills: what a charge is made of, item by item, and where each item is spent.
-ghost use Rattle.std.specs.Prelude.{◌≡◌, ◌++◌, ◌∷◌, [], OnOk};
+// Bills: what a charge is made of, item by item, and for what each item is.
+ghost use Rattle.std.specs.Prelude.{◌≡◌, ◌*◌, ◌++◌, ◌∷◌, [], OnOk};
 ghost use Rattle.prem_bounds.specs.Scale.{clipped};
-ghost use Rattle.prem_profile.specs.Bound.Bills.{bill_times, cost_times, cycles_on, dearer, spent_at};
+ghost use Rattle.prem_profile.specs.Bound.Bills.{bill_times, cost_times, cycles_on, dearer, home_of, spent_at};
 
 use crate::cost::Cost;
 use crate::home::Home;
-use prem_bounds::scale::{plus, times};
+use prem_bounds::scale::{ENOUGH, plus};
+use prem_plant::TaskId;
 use std::alloc::AllocError;
 
-/// What is spent at a home.
+/// For what an item of a bill is.
+#[derive(Clone, Copy, PartialEq, Eq, Debug)]
+pub enum Spot {
+    /// Switches to this task.
+    Switch(TaskId),
+    /// The instruction at this address.
+    At(u32),
+    /// Calls of the function of this number, while its own items aren't told in their place.
+    Call(u32),
+}
+
+/// What is spent at a spot.
 #[derive(Clone, Copy, PartialEq, Eq, Debug)]
 pub struct Item {
-    pub home: Home,
+    pub spot: Spot,
     pub cost: Cost,
 }
 
-/// Puts what is spent at a home behind a bill.
-pub fn push_item(bill: &mut Vec<Item>, home: Home, cost: Cost) -> Result<(), AllocError>
-    ensures { OnOk result (bill.new.items ≡ bill.old.items ++ spent_at home cost ∷ []) }
+/// The home of what is spent at a spot; calls have none of their own.
+pub fn home_of(spot: Spot) -> Home
+    ensures { result ≡ home_of spot }
 {
-    bill.push(Item { home, cost })?;
+    match spot {
+        Spot::Switch(k) => Home::Switch(k),
+        Spot::At(pc) => Home::At(pc),
+        Spot::Call(_) => Home::Rest,
+    }
+}
+
+/// Puts what is spent at a spot behind a bill.
+pub fn push_item(bill: &mut Vec<Item>, spot: Spot, cost: Cost) -> Result<(), AllocError>
+    ensures { OnOk result (bill.new.items ≡ bill.old.items ++ spent_at spot cost ∷ []) }
+{
+    bill.push(Item { spot, cost })?;
     Ok(())
 }
 
@@ -33,15 +56,22 @@ pub fn append(bill: &mut Vec<Item>, more: &[Item]) -> Result<(), AllocError>
     Ok(())
 }
 
-/// A number so many times, which is told up to 2^41.
-fn cost_times(n: u32, cost: Cost) -> Cost
+/// A product, which is told up to 2^41.
+pub fn product(a: u64, b: u64) -> u64
+    ensures { result ≡ clipped (a * b) }
+{
+    a.saturating_mul(b).min(ENOUGH)
+}
+
+/// What is spent so many times, which is told up to 2^41.
+pub fn cost_times(n: u64, cost: Cost) -> Cost
     ensures { result ≡ cost_times n cost }
 {
     Cost {
-        instructions: times(n, cost.instructions),
-        cycles: times(n, cost.cycles),
-        misses: times(n, cost.misses),
-        backs: times(n, cost.backs),
+        instructions: product(n, cost.instructions),
+        cycles: product(n, cost.cycles),
+        misses: product(n, cost.misses),
+        backs: product(n, cost.backs),
     }
 }
 
@@ -50,7 +80,7 @@ pub fn append_times(bill: &mut Vec<Item>, n: u32, more: &[Item]) -> Result<(), A
     ensures { OnOk result (bill.new.items ≡ bill.old.items ++ bill_times n more.now) }
 {
     'items: for item in more {
-        push_item(bill, item.home, cost_times(n, item.cost))?;
+        push_item(bill, item.spot, cost_times(u64::from(n), item.cost))?;
     }
     Ok(())
 }

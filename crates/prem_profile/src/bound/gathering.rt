@@ -1,14 +1,13 @@
-// Bills with one item for each home: so a bill is no longer than the code that it has been spent in, however often it is called.
+// Bills with one item for each spot: so a bill is no longer than the code that it has been spent in, however often it is called.
 ghost use Rattle.std.specs.Prelude.{◌≡◌, ◌<◌, ◌^◌, slice_index_or, slice_set, length, IfOk, OnOk};
 ghost use Rattle.prem_profile.specs.declared.bound.bill.Item.{Item};
-ghost use Rattle.prem_profile.specs.declared.home.Home.TheVariants.{Rest};
+ghost use Rattle.prem_profile.specs.declared.bound.bill.Spot.TheVariants.{Switch};
 ghost use Rattle.prem_profile.specs.Spent.{no_cost};
 ghost use Rattle.prem_profile.specs.Bound.Bills.{gathered, told_plus};
 ghost use Rattle.prem_profile.specs.Bound.Slots.{items_with, lower, lowest, more_at, nothing_spent, slot_of, slots_for, slots_with};
 
-use crate::bound::bill::Item;
+use crate::bound::bill::{Item, Spot};
 use crate::cost::{Cost, no_cost};
-use crate::home::Home;
 use crate::strip::{no_rows, set_row};
 use prem_bounds::scale::plus;
 use std::alloc::{AllocError, Global};
@@ -27,14 +26,13 @@ fn told_plus(a: Cost, b: Cost) -> Cost
 
 // ---- slots
 
-/// The lower one of a word and that of a home, if it has one.
-fn lower(low: u32, home: Home) -> u32
-    ensures { result ≡ lower low home }
+/// The lower one of a word and that of a spot, if it has one.
+fn lower(low: u32, spot: Spot) -> u32
+    ensures { result ≡ lower low spot }
 {
-    match home {
-        Home::Rest => low,
-        Home::Switch(_) => low,
-        Home::At(pc) => low.min(pc / 4),
+    match spot {
+        Spot::Switch(_) | Spot::Call(_) => low,
+        Spot::At(pc) => low.min(pc / 4),
     }
 }
 
@@ -44,20 +42,20 @@ fn lowest(bill: &[Item]) -> u32
 {
     let mut low = u32::MAX;
     'items: for item in bill {
-        low = lower(low, item.home);
+        low = lower(low, item.spot);
     }
     low
 }
 
-/// The slot of a home, where no word is below the lowest one.
-fn slot_of(low: u32, home: Home) -> usize
-    ensures slot { result ≡ slot_of low home }
-    ensures small { result < 2 ^ 32 }
+/// The slot of a spot, where no word is below the lowest one.
+fn slot_of(low: u32, spot: Spot) -> usize
+    ensures slot { result ≡ slot_of low spot }
+    ensures small { result < 2 ^ 34 }
 {
-    match home {
-        Home::Rest => 0,
-        Home::Switch(k) => 2 * usize::from(k) + 1,
-        Home::At(pc) => 2 * ((pc / 4).saturating_sub(low) as usize) + 2,
+    match spot {
+        Spot::Switch(k) => 3 * usize::from(k),
+        Spot::At(pc) => 3 * ((pc / 4).saturating_sub(low) as usize) + 1,
+        Spot::Call(f) => 3 * (f as usize) + 2,
     }
 }
 
@@ -67,7 +65,7 @@ fn slots_for(low: u32, bill: &[Item]) -> usize
 {
     let mut count = 0;
     'items: for item in bill {
-        count = count.max(slot_of(low, item.home) + 1);
+        count = count.max(slot_of(low, item.spot) + 1);
     }
     count
 }
@@ -91,7 +89,7 @@ fn item_at(items: &[Item], place: usize) -> Item
     match items.get(place) {
         Some(item) => *item,
         None => Item {
-            home: Home::Rest,
+            spot: Spot::Switch(0),
             cost: no_cost(),
         },
     }
@@ -114,11 +112,11 @@ fn add_at(items: &mut Vec<Item>, place: usize, cost: Cost)
 {
     let old = item_at(items, place);
     let cost = told_plus(old.cost, cost);
-    let home = old.home;
-    set_item(items, place, Item { home, cost });
+    let spot = old.spot;
+    set_item(items, place, Item { spot, cost });
 }
 
-/// One item more, whose home has this slot.
+/// One item more, whose spot has this slot.
 fn put(
     items: &mut Vec<Item>,
     slots: &mut Vec<usize>,
@@ -139,7 +137,7 @@ fn put(
     Ok(())
 }
 
-/// A bill with one item for each home, in the order in which they come first.
+/// A bill with one item for each spot, in the order in which they come first.
 pub fn gather(alloc: Global, bill: &[Item]) -> Result<Vec<Item>, AllocError>
     ensures { IfOk result (λ all. all.items ≡ gathered bill.now) }
 {
@@ -147,7 +145,7 @@ pub fn gather(alloc: Global, bill: &[Item]) -> Result<Vec<Item>, AllocError>
     let mut slots = no_rows(alloc, slots_for(low, bill))?;
     let mut all = Vec::new(alloc);
     'items: for item in bill {
-        put(&mut all, &mut slots, slot_of(low, item.home), *item)?;
+        put(&mut all, &mut slots, slot_of(low, item.spot), *item)?;
     }
     Ok(all)
 }

@@ -10,7 +10,7 @@ pub fn bills_add_up()
     ensures { BillsAddUp }
 {}
 
-/// A gathered bill has one item for each home, and comes to what the bill comes to, told up to 2^41: in all, and in each row of a profile.
+/// A gathered bill has one item for each spot, and comes to what the bill comes to, told up to 2^41: in all, and in each row of a profile.
 pub fn bills_are_gathered()
     ensures { BillsAreGathered }
 {}

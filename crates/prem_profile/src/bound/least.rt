@@ -60,7 +60,7 @@ pub fn push_own(
     let prices = Prices {
         costing: rule_of(scene),
         count: 0,
-        functions: &[],
+        cycles: &[],
     };
     push_pieces(scene.alloc, bill, pieces, at, &prices)?;
     Ok(())

@@ -16,14 +16,13 @@ ghost use Rattle.prem_profile.specs.Bound.Statements.{call_at, choice_bill, head
 ghost use Rattle.prem_profile.specs.Bound.Passages.{cut_bill, cycles_item, marked_call, parted_bill, passage_bill, switch_item};
 ghost use Rattle.prem_profile.specs.Bound.Memory.{EndsAt, alone_bill, calls_of, cut_part_bill, function_parted_bill, marked_faces, marked_in, stubs_in};
 
-use crate::bound::bill::{Item, append, push_item};
+use crate::bound::bill::{Item, Spot, append, push_item};
 use crate::bound::least::{
     CallItems, around, least, own_items, push_choice, push_own_jump, push_turns, rule_of,
 };
 use crate::bound::pieces::push_instr;
 use crate::bound::scope::scope_or;
 use crate::cost::Cost;
-use crate::home::Home;
 use prem_asm::{Instr, Piece, size};
 use prem_plant::{Plant, TaskId};
 use prem_wcet::least::{behind_code, first_place, inner_place, second_place};
@@ -94,8 +93,8 @@ fn passage(
 // ---- marked calls
 
 /// Puts cycles in which no instruction is counted behind a bill.
-fn push_cycles(bill: &mut Vec<Item>, home: Home, cycles: u64) -> Result<(), AllocError>
-    ensures { OnOk result (bill.new.items ≡ bill.old.items ++ cycles_item home cycles ∷ []) }
+fn push_cycles(bill: &mut Vec<Item>, spot: Spot, cycles: u64) -> Result<(), AllocError>
+    ensures { OnOk result (bill.new.items ≡ bill.old.items ++ cycles_item spot cycles ∷ []) }
 {
     let cost = Cost {
         instructions: 0,
@@ -103,14 +102,14 @@ fn push_cycles(bill: &mut Vec<Item>, home: Home, cycles: u64) -> Result<(), Allo
         misses: 0,
         backs: 0,
     };
-    push_item(bill, home, cost)
+    push_item(bill, spot, cost)
 }
 
 /// Puts one switch to a task behind a bill.
 pub fn push_switch(bill: &mut Vec<Item>, plant: &Plant, task: TaskId) -> Result<(), AllocError>
     ensures { OnOk result (bill.new.items ≡ bill.old.items ++ switch_item plant.now task ∷ []) }
 {
-    push_cycles(bill, Home::Switch(task), u64::from(plant.switch))
+    push_cycles(bill, Spot::Switch(task), u64::from(plant.switch))
 }
 
 /// Puts a marked call of such a length behind a bill, whose stub stands at a place.
@@ -132,7 +131,7 @@ fn push_marked(
     };
     push_instr(bill, at, &Instr::PmMem, &rule)?;
     push_switch(bill, scene.plant, task)?;
-    push_cycles(bill, Home::At(at), u64::from(stated))?;
+    push_cycles(bill, Spot::At(at), u64::from(stated))?;
     push_switch(bill, scene.plant, task)?;
     push_instr(bill, at, &back, &rule)
 }

@@ -2,15 +2,15 @@
 ghost use Rattle.std.specs.Prelude.{◌≡◌, ◌≤◌, ◌<◌, ◌+◌, ◌*◌, ◌^◌, ◌++◌, ◌∷◌, [], length, IfOk, OnOk};
 ghost use Rattle.prem_asm.specs.Pieces.{address_of, back_at, branch_of, either, either_end, no_pieces, repeat, repeat_end, size_of, skip_words, test_at};
 ghost use Rattle.prem_asm.specs.PiecesOf.{piece_of, pieces_of};
+ghost use Rattle.prem_layout.specs.Bounds.{weight_at};
 ghost use Rattle.prem_profile.specs.Bound.Bills.{bill_times};
-ghost use Rattle.prem_profile.specs.Bound.Pieces.{bill_at, bill_from, item, jump_item, straight_bill};
+ghost use Rattle.prem_profile.specs.Bound.Pieces.{bill_from, call_items, item, jump_item, straight_bill};
 ghost use Rattle.prem_wcet.specs.Crowds.{IsCache};
 ghost use Rattle.prem_profile.specs.Bound.Scopes.{crowd_lines, rule_misses};
-ghost use Rattle.prem_profile.specs.Bound.Priced.{IsPriced, bills_in, calls_by, cost_by, costs_by, crowd_misses, miss_by, misses_by};
+ghost use Rattle.prem_profile.specs.Bound.Priced.{IsPriced, calls_by, cost_by, costs_by, crowd_misses, miss_by, misses_by};
 
-use crate::bound::bill::{Item, append, append_times, dearer, push_item};
+use crate::bound::bill::{Item, Spot, append, append_times, dearer, push_item};
 use crate::cost::Cost;
-use crate::home::Home;
 use prem_asm::{Instr, Piece, Test};
 use prem_isa::{AluOp, cost};
 use prem_wcet::crowd::Crowd;
@@ -25,12 +25,12 @@ pub enum Costing<'c> {
     Scope(&'c Crowd),
 }
 
-/// What instructions cost, and the bills of functions, of which there are so many.
+/// What instructions cost, and the cycles on the bills of functions, of which there are so many.
 #[derive(Clone, Copy)]
 pub struct Prices<'c> {
     pub costing: Costing<'c>,
     pub count: u32,
-    pub functions: &'c [Vec<Item>],
+    pub cycles: &'c [u64],
 }
 
 /// One line, unless there is room.
@@ -114,7 +114,7 @@ pub fn push_instr(
     requires { IsPriced costing.now }
     ensures { OnOk result (bill.new.items ≡ bill.old.items ++ item (cost_by costing.now) at i.now ∷ []) }
 {
-    push_item(bill, Home::At(at), cost_at(costing, at, i))
+    push_item(bill, Spot::At(at), cost_at(costing, at, i))
 }
 
 /// Puts a jump behind a bill.
@@ -144,27 +144,37 @@ pub fn push_test(
     push_instr(bill, at, &branch, costing)
 }
 
-/// The bill of a function of this number; nothing where it isn't known.
-fn bill_at<'c>(functions: &'c [Vec<Item>], n: u32) -> &'c [Item]
-    ensures { result.now ≡ bill_at (bills_in functions.now) n }
+/// The cycles of a function of this number; 0 where it isn't known.
+fn cycles_at(cycles: &[u64], n: u32) -> u64
+    ensures { result ≡ weight_at cycles.now n }
 {
-    match functions.get(n as usize) {
-        Some(bill) => bill,
-        None => &[],
-    }
+    cycles.get(n as usize).copied().unwrap_or(0)
 }
 
-/// The bill of a called part: of functions alone.
-fn called_at<'c>(part: u32, prices: &Prices<'c>) -> &'c [Item]
-    ensures { result.now ≡ calls_by prices.now part }
+/// Puts a call of a function behind a bill that takes so many cycles.
+fn push_call_of(bill: &mut Vec<Item>, function: u32, cycles: u64) -> Result<(), AllocError>
+    ensures { OnOk result (bill.new.items ≡ bill.old.items ++ call_items function cycles) }
 {
-    if part == 0 {
-        &[]
-    } else if part - 1 < prices.count {
-        bill_at(prices.functions, part - 1)
-    } else {
-        &[]
+    if cycles == 0 {
+        return Ok(());
     }
+    let cost = Cost {
+        instructions: 1,
+        cycles,
+        misses: 0,
+        backs: 0,
+    };
+    push_item(bill, Spot::Call(function), cost)
+}
+
+/// Puts what is billed for a called part behind a bill: for functions alone.
+fn push_called(bill: &mut Vec<Item>, part: u32, prices: &Prices) -> Result<(), AllocError>
+    ensures { OnOk result (bill.new.items ≡ bill.old.items ++ calls_by prices.now part) }
+{
+    if part == 0 || part - 1 >= prices.count {
+        return Ok(());
+    }
+    push_call_of(bill, part - 1, cycles_at(prices.cycles, part - 1))
 }
 
 /// Instructions one behind another.
@@ -370,7 +380,7 @@ fn push_call(bill: &mut Vec<Item>, part: u32, at: u32, prices: &Prices) -> Resul
     ensures end { IfOk result (λ end. end ≡ at + 4) }
 {
     push_jump(bill, at, &prices.costing)?;
-    append(bill, called_at(part, prices))?;
+    push_called(bill, part, prices)?;
     Ok(at + 4)
 }
 

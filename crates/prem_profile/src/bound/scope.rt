@@ -13,16 +13,15 @@ ghost use Rattle.prem_wcet.specs.Outlines.{code_of};
 ghost use Rattle.prem_wcet.specs.PartsOf.{parts_of};
 ghost use Rattle.prem_wcet.specs.SceneOf.{IsScene, facts_in, scene_in};
 ghost use Rattle.prem_profile.specs.Bound.Bills.{cheaper, cycles_on};
-ghost use Rattle.prem_profile.specs.Bound.Pieces.{bill_from};
-ghost use Rattle.prem_profile.specs.Bound.Scopes.{bills_behind, function_from, lines_item, scope_bill_with};
+ghost use Rattle.prem_profile.specs.Bound.Pieces.{bill_from, part_bill};
+ghost use Rattle.prem_profile.specs.Bound.Scopes.{bills_behind, cycles_of, lines_item, scope_bill_with};
 ghost use Rattle.prem_profile.specs.Bound.Priced.{IsPriced, bills_in, calls_by, costs_by, crowd_bill, crowd_cost};
 
-use crate::bound::bill::{Item, cycles_on, push_item};
+use crate::bound::bill::{Item, Spot, cycles_on, push_item};
 use crate::bound::calling::code_calls;
-use crate::bound::gathering::gather;
 use crate::bound::pieces::{Costing, Prices, push_pieces};
+use crate::bound::spreading::push_spread;
 use crate::cost::Cost;
-use crate::home::Home;
 use prem_asm::Piece;
 use prem_bounds::line_cost;
 use prem_plant::Plant;
@@ -32,23 +31,41 @@ use prem_wcet::scene::{Ranges, Scene};
 use prem_wcet::scope::charge_with;
 use std::alloc::{AllocError, Global};
 
-/// The bill of the function of a number, where those before it are known, which has one item for each home.
+/// The paths of the first functions of a task, and the cycles on each.
+#[derive(Drop)]
+struct Paths {
+    bills: Vec<Vec<Item>>,
+    cycles: Vec<u64>,
+}
+
+/// Those of no functions.
+fn no_paths(alloc: Global) -> Paths
+    ensures bills { result.bills.items ≡ [] }
+    ensures cycles { result.cycles.items ≡ [] }
+{
+    Paths {
+        bills: Vec::new(alloc),
+        cycles: Vec::new(alloc),
+    }
+}
+
+/// The path of the function of a number, where the cycles of those before it are known.
 fn function_at(
     scene: &Scene,
     crowd: &Crowd,
-    functions: &[Vec<Item>],
+    cycles: &[u64],
     n: usize,
 ) -> Result<Vec<Item>, AllocError>
     requires scene { IsScene scene.now }
     requires cache { IsCache crowd.now }
     requires there { n < length scene.now.code.now }
-    ensures { IfOk result (λ bill. bill.items ≡ function_from (crowd_cost crowd.now) (length scene.now.code.now) (bills_in functions.now)
+    ensures { IfOk result (λ bill. bill.items ≡ bill_from (crowd_cost crowd.now) (part_bill (length scene.now.code.now) cycles.now)
         (place_at scene.now.places.now (code_part n)).0 (get_or (listed scene.now.code.now) n no_pieces)) }
 {
     let prices = Prices {
         costing: Costing::Scope(crowd),
         count: scene.code.len() as u32,
-        functions,
+        cycles,
     };
     let mut bill = Vec::new(scene.alloc);
     let code = scene.code[n].items();
@@ -59,36 +76,51 @@ fn function_at(
         scene.places.place(1 + n).0,
         &prices,
     )?;
-    let all = gather(scene.alloc, &bill)?;
-    Ok(all)
+    Ok(bill)
 }
 
-/// The bills of the functions that are known, each at its place.
-fn functions_of(scene: &Scene, crowd: &Crowd) -> Result<Vec<Vec<Item>>, AllocError>
+/// One path more.
+fn with_path(paths: Paths, bill: Vec<Item>) -> Result<Paths, AllocError>
+    ensures bills { IfOk result (λ all. bills_in all.bills.items ≡ bills_in paths.bills.items ++ bill.items ∷ []) }
+    ensures cycles { IfOk result (λ all. all.cycles.items ≡ paths.cycles.items ++ clipped (cycles_on bill.items) ∷ []) }
+{
+    let Paths {
+        mut bills,
+        mut cycles,
+    } = paths;
+    cycles.push(cycles_on(&bill))?;
+    bills.push(bill)?;
+    Ok(Paths { bills, cycles })
+}
+
+/// The paths of the functions that are known, each at its place.
+fn paths_of(scene: &Scene, crowd: &Crowd) -> Result<Paths, AllocError>
     requires scene { IsScene scene.now }
     requires cache { IsCache crowd.now }
-    ensures { IfOk result (λ all. bills_in all.items ≡ bills_behind (crowd_cost crowd.now) (length scene.now.code.now) (λ part. (place_at scene.now.places.now part).0) []
+    ensures bills { IfOk result (λ all. bills_in all.bills.items ≡ bills_behind (crowd_cost crowd.now) (length scene.now.code.now) (λ part. (place_at scene.now.places.now part).0) []
         (facts_in scene.now.facts.now scene.now.code.now)) }
+    ensures cycles { IfOk result (λ all. all.cycles.items ≡ cycles_of (bills_in all.bills.items)) }
 {
-    let mut all = Vec::new(scene.alloc);
+    let mut all = no_paths(scene.alloc);
     for n in 0..scene.facts.len() {
-        let bill = function_at(scene, crowd, &all, n)?;
-        all.push(bill)?;
+        let bill = function_at(scene, crowd, &all.cycles, n)?;
+        all = with_path(all, bill)?;
     }
     Ok(all)
 }
 
 /// The same where code calls them, and else none.
-fn functions_for(scene: &Scene, crowd: &Crowd, calls: bool) -> Result<Vec<Vec<Item>>, AllocError>
+fn paths_for(scene: &Scene, crowd: &Crowd, calls: bool) -> Result<Paths, AllocError>
     requires scene { IsScene scene.now }
     requires cache { IsCache crowd.now }
-    ensures { IfOk result (λ all. calls ≡ true → bills_in all.items ≡ bills_behind (crowd_cost crowd.now) (length scene.now.code.now) (λ part. (place_at scene.now.places.now part).0) []
+    ensures bills { IfOk result (λ all. calls ≡ true → bills_in all.bills.items ≡ bills_behind (crowd_cost crowd.now) (length scene.now.code.now) (λ part. (place_at scene.now.places.now part).0) []
         (facts_in scene.now.facts.now scene.now.code.now)) }
+    ensures cycles { IfOk result (λ all. all.cycles.items ≡ cycles_of (bills_in all.bills.items)) }
 {
     if calls {
-        functions_of(scene, crowd)
+        paths_of(scene, crowd)
     } else {
-        Ok(Vec::new(scene.alloc))
+        Ok(no_paths(scene.alloc))
     }
 }
 
@@ -126,7 +158,7 @@ fn push_lines(bill: &mut Vec<Item>, at: u32, lines: u64, plant: &Plant) -> Resul
         misses: lines,
         backs: lines,
     };
-    push_item(bill, Home::At(at), cost)
+    push_item(bill, Spot::At(at), cost)
 }
 
 /// The bill of code whose lines are such a collection.
@@ -144,15 +176,17 @@ fn crowd_bill(
     requires place { at + size_of (followed (pieces_of before.now) (followed (code_of (parts_of parts.now)) (pieces_of last.now))) < 2 ^ 32 }
     ensures { IfOk result (λ bill. bill.items ≡ crowd_bill (scene_in scene.now) crowd.now at (followed (pieces_of before.now) (followed (code_of (parts_of parts.now)) (pieces_of last.now)))) }
 {
-    let functions = functions_for(scene, crowd, code_calls(before, parts, last))?;
+    let functions = paths_for(scene, crowd, code_calls(before, parts, last))?;
     let prices = Prices {
         costing: Costing::Scope(crowd),
         count: scene.code.len() as u32,
-        functions: &functions,
+        cycles: &functions.cycles,
     };
+    let mut path = Vec::new(scene.alloc);
+    push_parts(scene.alloc, &mut path, before, parts, last, at, &prices)?;
     let mut bill = Vec::new(scene.alloc);
     push_lines(&mut bill, at, crowd.held, scene.plant)?;
-    push_parts(scene.alloc, &mut bill, before, parts, last, at, &prices)?;
+    push_spread(scene.alloc, &mut bill, &path, &functions.bills)?;
     Ok(bill)
 }
 

@@ -52,7 +52,7 @@ struct BilledFunctions {
 
 // ---- functions
 
-/// What a call of a function is billed whose code is at a place, with one item for each home.
+/// What a call of a function is billed whose code is at a place, with one item for each spot.
 fn function_calls(
     scene: &Scene,
     known: &[CallItems],

@@ -5,12 +5,12 @@ ghost use Rattle.prem_profile.specs.Spent.{no_cost, plus};
 ghost use Rattle.prem_profile.specs.Account.{HasRoom, each_row, row_of, with_cost};
 ghost use Rattle.prem_profile.specs.Callgrind.{no_calls_at, profile_text};
 ghost use Rattle.prem_profile.specs.Strips.{first_row, rows_of, strip_of, strip_words};
-ghost use Rattle.prem_profile.specs.Bound.Bills.{total};
+ghost use Rattle.prem_profile.specs.Bound.Bills.{home_of, total};
 ghost use Rattle.prem_profile.specs.Bound.Booked.{bill_row};
 ghost use Rattle.prem_profile.specs.Bound.Small.{IsSmall};
 
 use crate::account::{Account, RowTable, book, new_account, row_of};
-use crate::bound::bill::Item;
+use crate::bound::bill::{Item, home_of};
 use crate::callgrind::{Source, Told, profile_text};
 use crate::calls::Calls;
 use crate::cost::{Cost, no_cost};
@@ -21,10 +21,11 @@ use std::alloc::{AllocError, Global};
 fn book_item(account: &mut Account, table: &RowTable, item: &Item)
     requires { HasRoom account.old.total account.old.costs.items item.now.cost }
     ensures total { account.new.total ≡ plus account.old.total item.now.cost }
-    ensures costs { account.new.costs.items ≡ with_cost account.old.costs.items (row_of table.now.tasks table.now.words.items item.now.home) item.now.cost }
+    ensures costs { account.new.costs.items ≡ with_cost account.old.costs.items (row_of table.now.tasks table.now.words.items (home_of item.now.spot)) item.now.cost }
 {
-    let row = row_of(table, item.home);
-    book(account, item.home, row, item.cost);
+    let home = home_of(item.spot);
+    let row = row_of(table, home);
+    book(account, home, row, item.cost);
 }
 
 /// What the items of a bill come to in the rows of a table.

@@ -1,5 +1,5 @@
-use Rattle.std.proofs.Common.{◌≡◌, ◌≤◌, ◌-◌, List, [], length, refl, ap, sym, ◌∙◌, subst, arith}
-use Rattle.prem_cycle.specs.State.{MachineState, rule_in}
+use Rattle.std.proofs.Common.{◌≤◌, ◌-◌, List, length, refl, ap, ◌∙◌, subst, arith}
+use Rattle.prem_cycle.specs.State.{rule_in}
 use Rattle.prem_cycle.specs.Cycle.{is_over}
 use Rattle.prem_machine.specs.Execution.{ToldBehind}
 use Rattle.prem_machine.specs.States.{Running, requests_in, setup_in, state_of}

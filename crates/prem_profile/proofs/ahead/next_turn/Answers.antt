@@ -1,13 +1,12 @@
-use Rattle.std.proofs.Common.{◌≡◌, ◌≤◌, ◌-◌, List, Some, length, refl, ap, ap₂, sym, ◌∙◌, subst, arith}
+use Rattle.std.proofs.Common.{◌≡◌, ◌≤◌, ◌-◌, List, Some, length, ap, ap₂, ◌∙◌, subst, arith}
 use Rattle.prem_list.specs.Sequence.{items_of}
 use Rattle.prem_gate.specs.declared.request.Request.{Request}
 use Rattle.prem_cycle.specs.State.{MachineState, Setup, rule_in}
 use Rattle.prem_cycle.specs.Cycle.{is_over}
 use Rattle.prem_cycle.specs.FactsOf.{stop_of}
 use Rattle.prem_cycle.specs.Inputs.{setup_of}
-use Rattle.prem_machine.specs.States.{requests_in, setup_in, state_of}
+use Rattle.prem_machine.specs.States.{requests_in, state_of}
 use Rattle.prem_profile.specs.Turn.{AreSeen, seen_cost, seen_home, seen_of}
-use Rattle.prem_profile.specs.Ahead.{IsAhead, run_after}
 use Rattle.prem_profile.proofs.ToldTurns.{all_booked, stands_at, went_on}
 use Rattle.prem_profile.proofs.ahead.next_turn.Goals as goal
 

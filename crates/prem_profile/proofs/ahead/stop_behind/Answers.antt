@@ -1,4 +1,4 @@
-use Rattle.std.proofs.Common.{◌≡◌, ◌≤◌, Some, List, length, get_or, refl, ap, sym, ◌∙◌, subst, arith}
+use Rattle.std.proofs.Common.{◌≡◌, ◌≤◌, Some, length, get_or, subst, arith}
 use Rattle.prem_list.specs.Sequence.{items_of}
 use Rattle.prem_cycle.specs.State.{MachineState, rule_in}
 use Rattle.prem_cycle.specs.FactsOf.{stop_of}

@@ -1,6 +1,6 @@
-use Rattle.std.proofs.Common.{◌≡◌, ◌+◌, ◌<◌, [], ◌∷◌, refl, ap, sym, subst, ◌∙◌, arith, length, drop, get_or}
+use Rattle.std.proofs.Common.{◌+◌, ◌<◌, ap, sym, subst, ◌∙◌, arith, length, drop, get_or}
 use Rattle.std.proofs.lemmas.List.{drop_more, length-replicate}
-use Rattle.prem_profile.specs.Bound.Bills.{gathered, with_bill, with_item}
+use Rattle.prem_profile.specs.Bound.Bills.{with_bill}
 use Rattle.prem_profile.specs.Bound.Slots.{items_with, nothing_spent, slot_of, slots_for, slots_with}
 use Rattle.prem_profile.proofs.BillLemmas.Slots.{AreFrom, AreSlots, AreWithin, all_from, all_within, from_put, items_put, past, slots_long, slots_none, slots_put, zeros}
 use Rattle.prem_profile.proofs.bound.gathering.gather.Goals as goal
@@ -33,7 +33,7 @@ items-preserved c =
     let left = drop_more bill i nothing_spent c.items-test.true in
     let from = subst (AreFrom low) left c.items.invariant.left in
     let within = subst (AreWithin low many) left c.items.invariant.within in
-    let there : slot_of low x.home < length slots = omega (arith, within.0, c.items.invariant.long) in
+    let there : slot_of low x.spot < length slots = omega (arith, within.0, c.items.invariant.long) in
     let put = items_put low x from.0 slots all c.items.invariant.slots c.items.invariant.from there in
     let slot_is = c.slot_of.ensures.slot in
     let put_is = c.in_ok-put.ensures.items ∙ ap (λ s. items_with all (get_or slots s 0) x) slot_is ∙ put in

@@ -4,7 +4,7 @@ use Rattle.prem_profile.specs.Bound.Slots.{slots_for}
 use Rattle.prem_profile.proofs.BillLemmas.Slots.{AreFrom, AreSlots, AreWithin}
 use Rattle.prem_profile.proofs.bound.gathering.gather.Given as goal
 
--- what is there, with what is left, is what comes out; each home has its slot, which tells where its item stands
+-- what is there, with what is left, is what comes out; each spot has its slot, which tells where its item stands
 abbrev pub invariant-items : goal.invariant-items
 invariant-items l = record {
   rest : with_bill l.all.items (drop l.item-index l.bill) ≡ gathered l.bill;

@@ -12,6 +12,6 @@ pub returns : goal.returns
 returns c =
     let e = scene_in c.args.scene.now in
     let n = c.args.n in
-    if_more c.parts_or.result (λ bill told. told
+    if_more {Q = λ bill. bill.items ≡ cheaper (scope_bill e c.args.at (span_in (parts_of (take 1 (drop n c.args.parts.now))))) c.args.divided.items} c.parts_or.result (λ bill told. told
     ∙ ap (λ m. cheaper (scope_bill e c.args.at (span_in (parts_of (take m (drop n c.args.parts.now))))) c.args.divided.items)
     (let one : n + 1 - n ≡ 1 = omega arith in one)) c.parts_or.ensures

@@ -1,6 +1,6 @@
 use Rattle.std.proofs.Common.{[], refl, ◌∙◌, ap, arith, get_or, length}
 use Rattle.prem_profile.specs.declared.bound.bill.Item.{Item}
-use Rattle.prem_profile.specs.declared.home.Home.TheVariants.{Rest}
+use Rattle.prem_profile.specs.declared.bound.bill.Spot.TheVariants.{Switch}
 use Rattle.prem_profile.specs.Spent.{no_cost}
 use Rattle.prem_profile.specs.Account.{each_row}
 use Rattle.prem_profile.specs.Bound.Bills.{total}
@@ -10,7 +10,7 @@ use Rattle.prem_profile.proofs.BillLemmas.Booked.{has_room, one_booked, one_told
 use Rattle.prem_profile.proofs.bound.text.booked.Goals as goal
 
 abbrev none : Item
-none = record { home = Rest; cost = no_cost }
+none = record { spot = Switch 0; cost = no_cost }
 
 pub items-init : goal.items-init
 items-init c = record {
