@@ -102,6 +102,10 @@ CASES = [  # the program, what, the greatest count, the words, the file as a fun
     ("prem_profile", "a run of n jobs", 10000, "jobs e", lambda n: b""),
     ("prem_profile", "a job of n marked calls", 2000, "s e", calls),
     ("prem_profile", "a job of n loops", 1500, "s e", loops),
+    ("prem_profile", "a job of n nested choices", 30, "--bound s", nested),
+    ("prem_profile", "a job of n marked calls", 2000, "--bound s", calls),
+    ("prem_profile", "a job of n loops", 1500, "--bound s", loops),
+    ("prem_profile", "n functions, each calling the one before it twice", 24, "--bound s", functions),
 ]
 
 

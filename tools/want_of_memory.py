@@ -121,6 +121,9 @@ sd.toml d.run --cycles 500
 sd.toml lan.run
 conflict.toml e.run
 fir.toml fir.run
+--bound sd.toml
+--bound conflict.toml
+--bound fir.toml
 """,
     "prem_annotate_cli": """s.toml m
 bare.toml m

@@ -17,3 +17,4 @@ pub mod Booked
 pub mod Told
 pub mod Slots
 pub mod Spreading
+pub mod Back

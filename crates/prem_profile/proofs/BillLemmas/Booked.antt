@@ -26,11 +26,11 @@ taken_more (y ∷ bill) zero x d lt is = ap (λ z. z ∷ []) (sym is)
 taken_more (y ∷ bill) (suc n) x d lt is =
     (let next : suc n + 1 ≡ suc (n + 1) = omega arith in ap (λ k. take k (y ∷ bill)) next) ∙ ap (λ ys. y ∷ ys) (taken_more bill n x d (omega (arith, lt)) is)
 
-pub whole : (bill : Bill) (n : ℕ) → length bill ≤ n → take n bill ≡ bill
+pub whole : {A : Type 0} (xs : List A) (n : ℕ) → length xs ≤ n → take n xs ≡ xs
 whole [] zero le = refl
 whole [] (suc n) le = refl
-whole (x ∷ bill) zero le = absurd (omega (arith, le))
-whole (x ∷ bill) (suc n) le = ap (λ ys. x ∷ ys) (whole bill n (omega (arith, le)))
+whole (x ∷ xs) zero le = absurd (omega (arith, le))
+whole (x ∷ xs) (suc n) le = ap (λ ys. x ∷ ys) (whole xs n (omega (arith, le)))
 
 last_total : (bill : Bill) (x : Item) → total (bill ++ x ∷ []) ≡ plus (total bill) x.cost
 last_total [] x = same_cost (plus x.cost no_cost) (plus no_cost x.cost) (omega arith) (omega arith) (omega arith) (omega arith)

@@ -82,6 +82,11 @@ cut_part_bill e stubs known at (turning code names first turns head before body 
     (own_bill e (head_end at first head + 8) before
     ++ (alone_bill e stubs known (inner_place at first head before) body ++ own_bill e (inner_end at first head before body) behind))
 
+-- bills one behind another, from the last one to the first one
+abbrev pub from_last : List Bill → Bill
+from_last [] = []
+from_last (b ∷ bills) = from_last bills ++ b
+
 -- how many functions are marked, and how many of the first n
 abbrev pub marked_in : List Face → ℕ
 marked_in [] = 0

@@ -14,7 +14,8 @@ ghost use Rattle.prem_wcet.specs.SceneOf.{IsScene, plan_stating, scene_in};
 ghost use Rattle.prem_profile.specs.Bound.Scopes.{own_bill, own_jump_item};
 ghost use Rattle.prem_profile.specs.Bound.Statements.{call_at, choice_bill, head_end, inner_end, over_place, turns_bill};
 ghost use Rattle.prem_profile.specs.Bound.Passages.{cut_bill, cycles_item, marked_call, parted_bill, passage_bill, switch_item};
-ghost use Rattle.prem_profile.specs.Bound.Memory.{EndsAt, alone_bill, calls_of, cut_part_bill, function_parted_bill, marked_faces, marked_in, stubs_in};
+ghost use Rattle.prem_profile.specs.Bound.Priced.{bills_in};
+ghost use Rattle.prem_profile.specs.Bound.Memory.{EndsAt, alone_bill, calls_of, cut_part_bill, from_last, function_parted_bill, marked_faces, marked_in, stubs_in};
 
 use crate::bound::bill::{Item, Spot, append, push_item};
 use crate::bound::least::{
@@ -357,8 +358,7 @@ fn cut_part(
     }
 }
 
-/// A statement that has marked calls in it and what is billed behind it: a passage up to the next such statement, and the
-/// rest from that one on.
+/// A statement that has marked calls in it, and the passage behind it, up to the next such statement.
 fn behind_cut(
     scene: &Scene,
     known: &[CallItems],
@@ -367,26 +367,37 @@ fn behind_cut(
     front: &[Part<'_>],
     edge: &Edge<'_>,
     cut: Vec<Item>,
-    rest: &[Item],
 ) -> Result<Vec<Item>, AllocError>
     requires scene { IsScene scene.now }
     requires place { landing_place at (part_of part.now) + size_of (between (landing_edge (part_of part.now)) (parts_of front.now) (edge_of edge.now)).pieces < 2 ^ 32 }
     requires fits { FitsAt (landing_place at (part_of part.now) + size_of (landing_edge (part_of part.now)).pieces) (parts_of front.now) }
     requires ends { EndsAt (landing_place at (part_of part.now) + size_of (landing_edge (part_of part.now)).pieces) (parts_of front.now) }
     ensures { IfOk result (λ bill. bill.items ≡ cut.items
-        ++ (passage_bill (scene_in scene.now) (calls_of known.now) (landing_place at (part_of part.now)) (landing_edge (part_of part.now)) (parts_of front.now) (edge_of edge.now) ++ rest.now)) }
+        ++ passage_bill (scene_in scene.now) (calls_of known.now) (landing_place at (part_of part.now)) (landing_edge (part_of part.now)) (parts_of front.now) (edge_of edge.now)) }
 {
     let first = landing(part);
     let from = landing_place(at, part);
     let most = passage(scene, known, from, &first, front, edge)?;
     let mut bill = cut;
     append(&mut bill, &most)?;
-    append(&mut bill, rest)?;
     Ok(bill)
 }
 
+/// Puts bills behind another one, from the last one to the first one.
+fn append_back(bill: &mut Vec<Item>, bills: &[Vec<Item>]) -> Result<(), AllocError>
+    ensures { OnOk result (bill.new.items ≡ bill.old.items ++ from_last (bills_in bills.now)) }
+{
+    let mut n = bills.len();
+    'back: while n > 0 {
+        n -= 1;
+        append(bill, &bills[n])?;
+    }
+    Ok(())
+}
+
 /// Statements between two edges, of which the first one begins at a place. They are billed from the last one on: behind a
-/// statement that has marked calls in it stands a passage up to the next such one.
+/// statement that has marked calls in it stands a passage up to the next such one. What is billed there is put together
+/// once, so that many such statements take no more than their bills.
 #[cycle(parted)]
 fn parted<'a>(
     scene: &Scene,
@@ -405,7 +416,7 @@ fn parted<'a>(
     ensures { IfOk result (λ bill. bill.items ≡ parted_bill (scene_in scene.now) (stubs_in scene.now task) (calls_of known.now) at (edge_of before.now) (edge_of last.now) (parts_of parts.now)) }
 {
     let mut place = end_of(at, before, parts);
-    let mut bill = Vec::new(scene.alloc);
+    let mut behind = Vec::new(scene.alloc);
     let mut edge = *last;
     let mut until = parts.len();
     let mut n = parts.len();
@@ -415,22 +426,14 @@ fn parted<'a>(
         place = start_of(place, part);
         if cuts(scene, part) {
             let cut = cut_part(scene, known, task, place, part)?;
-            bill = behind_cut(
-                scene,
-                known,
-                place,
-                part,
-                &parts[n + 1..until],
-                &edge,
-                cut,
-                &bill,
-            )?;
+            let bill = behind_cut(scene, known, place, part, &parts[n + 1..until], &edge, cut)?;
+            behind.push(bill)?;
             edge = passing(scene, part);
             until = n;
         }
     }
     let mut all = passage(scene, known, at, before, &parts[..until], &edge)?;
-    append(&mut all, &bill)?;
+    append_back(&mut all, &behind)?;
     Ok(all)
 }
 

@@ -17,7 +17,9 @@ use Rattle.prem_wcet.proofs.Passages.{between_size}
 use Rattle.prem_profile.specs.Bound.Scopes.{own_bill}
 use Rattle.prem_profile.specs.Bound.Statements.{choice_bill, inner_end, over_place, turns_bill}
 use Rattle.prem_profile.specs.Bound.Passages.{closed_bill, first_passage, parted_bill, passage_bill}
-use Rattle.prem_profile.specs.Bound.Memory.{EndsAt, alone_bill, calls_of, cut_part_bill, stubs_in}
+use Rattle.prem_profile.specs.Bound.Memory.{EndsAt, alone_bill, calls_of, cut_part_bill, from_last, stubs_in}
+use Rattle.prem_profile.specs.Bound.Priced.{bills_in}
+use Rattle.prem_profile.proofs.BillLemmas.Back.{block_more}
 use Rattle.prem_profile.proofs.BillLemmas.Cut.{closed_all, closed_at, closed_before, closed_none}
 use Rattle.prem_profile.proofs.BillLemmas.Statements.{cut_is}
 use Rattle.prem_profile.proofs.BillLemmas.Places.{first_ends, front_stands_ends, part_ends}
@@ -227,7 +229,7 @@ pub parted-back-init : goal.parted-back-init
 parted-back-init t c =
     let e = scene_in c.args.scene.now in
     let start = c.args.at + size_of (pieces_of c.args.before.now.pieces.now) in
-    closed_none e (stubs_in c.args.scene.now c.args.task) (calls_of c.args.known.now) (edge_of c.args.last.now) c.args.parts.now start _ _ _ _ _ refl refl c.end_of-place.ensures refl c.new-bill.ensures.items
+    closed_none e (stubs_in c.args.scene.now c.args.task) (calls_of c.args.known.now) (edge_of c.args.last.now) c.args.parts.now start _ _ _ _ _ refl refl c.end_of-place.ensures refl (ap (λ bs. from_last (bills_in bs)) c.new-behind.ensures.items)
 
 pub parted-back-preserved-then-cuts : goal.parted-back-preserved-then-cuts
 parted-back-preserved-then-cuts t c =
@@ -246,9 +248,9 @@ parted-back-preserved-then-cuts t c =
     let room = part_room e l ps start c.back.n n c.back.place c.back.until x k p c.back.invariant.counted c.requires.fits one here c.index-parts-n.is in
     let stands = (let same : c.start_of-place.result + size_of (part_code p) ≡ c.back.place = omega (arith, room, c.start_of-place.ensures) in same) in
     let from = landing_place c.start_of-place.result (part_of p) in
-    let made = c.in_ok-bill.ensures
-    ∙ ap (λ r. c.in_ok-cut.cut.items ++ (passage_bill e known from (landing_edge (part_of p)) (parts_of (take (c.back.until - (n + 1)) (drop (n + 1) ps))) x ++ r)) c.deref.ensures.value in
-    closed_at e s known l ps start c.back.n n c.back.place c.start_of-place.result c.back.until x (edge_of c.passing-edge.result) c.back.bill.items c.in_ok-cut.cut.items c.in_ok-bill.bill.items
+    let most = passage_bill e known from (landing_edge (part_of p)) (parts_of (take (c.back.until - (n + 1)) (drop (n + 1) ps))) x in
+    let made = block_more c.back.behind.items c.push.new.self.items c.in_ok-bill.bill c.in_ok-cut.cut.items most c.in_ok-push.ensures.items c.in_ok-bill.ensures in
+    closed_at e s known l ps start c.back.n n c.back.place c.start_of-place.result c.back.until x (edge_of c.passing-edge.result) (from_last (bills_in c.back.behind.items)) c.in_ok-cut.cut.items (from_last (bills_in c.push.new.self.items))
     (parts_of (take (c.back.until - (n + 1)) (drop (n + 1) ps))) p one here c.index-parts-n.is (sym c.if-cuts.ensures) stands c.passing-edge.ensures c.in_ok-cut.ensures
     (ap (λ j. parts_of (take (c.back.until - j) (drop j ps))) (sym one)) made c.back.invariant
 
@@ -268,7 +270,7 @@ parted-back-preserved t c =
     let here = (let less : n < length ps = omega (arith, c.back-test.true, c.back.invariant.counted.low, c.back.invariant.counted.high) in less) in
     let room = part_room e l ps start c.back.n n c.back.place c.back.until x k p c.back.invariant.counted c.requires.fits one here c.index-parts-n.is in
     let stands = (let same : c.start_of-place.result + size_of (part_code p) ≡ c.back.place = omega (arith, room, c.start_of-place.ensures) in same) in
-    closed_before e s known l ps start c.back.n n c.back.place c.start_of-place.result c.back.until x c.back.bill.items p one here c.index-parts-n.is (sym c.if-cuts.ensures) stands c.back.invariant
+    closed_before e s known l ps start c.back.n n c.back.place c.start_of-place.result c.back.until x (from_last (bills_in c.back.behind.items)) p one here c.index-parts-n.is (sym c.if-cuts.ensures) stands c.back.invariant
 
 pub parted-passage-requires-clause-place : goal.parted-passage-requires-clause-place
 parted-passage-requires-clause-place t c =
@@ -291,6 +293,6 @@ parted-passage-requires-clause-ends t c =
 pub parted-returns : goal.parted-returns
 parted-returns t c =
     closed_all (scene_in c.args.scene.now) (stubs_in c.args.scene.now c.args.task) (calls_of c.args.known.now) c.args.at c.back.place c.back.n c.back.until (edge_of c.args.before.now)
-    (edge_of c.args.last.now) (edge_of c.back.edge) c.args.parts.now (parts_of (take c.back.until c.args.parts.now)) c.in_ok-all.all.items c.back.bill.items _
+    (edge_of c.args.last.now) (edge_of c.back.edge) c.args.parts.now (parts_of (take c.back.until c.args.parts.now)) c.in_ok-all.all.items (from_last (bills_in c.back.behind.items)) _
     (let none : c.back.n ≡ 0 = omega (arith, c.back-test.false) in none) refl c.in_ok-all.ensures
-    (c.in_ok-append.ensures ∙ ap (λ x. c.in_ok-all.all.items ++ x) c.deref-2.ensures.value) c.back.invariant
+    (c.in_ok-append_back.ensures ∙ ap (λ bs. c.in_ok-all.all.items ++ from_last (bills_in bs)) c.deref.ensures.value) c.back.invariant

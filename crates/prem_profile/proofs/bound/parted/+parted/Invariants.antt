@@ -5,7 +5,8 @@ use Rattle.prem_wcet.specs.EdgesOf.{edge_of}
 use Rattle.prem_wcet.specs.PartsOf.{part_of, parts_of}
 use Rattle.prem_wcet.specs.SceneOf.{scene_in}
 use Rattle.prem_wcet.proofs.PartRows.{count}
-use Rattle.prem_profile.specs.Bound.Memory.{calls_of, stubs_in}
+use Rattle.prem_profile.specs.Bound.Memory.{calls_of, from_last, stubs_in}
+use Rattle.prem_profile.specs.Bound.Priced.{bills_in}
 use Rattle.prem_profile.proofs.BillLemmas.Cut.{IsClosed}
 use Rattle.prem_profile.proofs.bound.parted.+parted.Given as goal
 
@@ -30,4 +31,4 @@ decreases-parted-back l = l.n
 -- the statements that are billed
 abbrev pub invariant-parted-back : goal.invariant-parted-back
 invariant-parted-back l =
-    IsClosed (scene_in l.scene) (stubs_in l.scene l.task) (calls_of l.known) (edge_of l.last) l.parts (l.at + size_of (pieces_of l.before.pieces.now)) l.n l.place l.until (edge_of l.edge) l.bill.items
+    IsClosed (scene_in l.scene) (stubs_in l.scene l.task) (calls_of l.known) (edge_of l.last) l.parts (l.at + size_of (pieces_of l.before.pieces.now)) l.n l.place l.until (edge_of l.edge) (from_last (bills_in l.behind.items))
