@@ -1,3 +1,4 @@
+pub mod Numbers
 pub mod LinesLemmas
 pub mod Executes
 pub mod Turns

@@ -1,7 +1,6 @@
 -- All rows of a profile add up to all that is spent.
 use Rattle.std.specs.Prelude.{◌==◌, nat_lt, slice_index_or, slice_set}
 use Rattle.std.proofs.Common.{◌≡◌, ℕ, zero, suc, ◌+◌, ◌/◌, ◌≤◌, ◌<◌, Bool, true, false, cond, List, [], ◌∷◌, length, replicate, refl, ap, ap₂, sym, ◌∙◌, arith}
-use Rattle.std.proofs.lemmas.Bool.Decides.{nat_tests}
 use Rattle.prem_lru.specs.Entries.{ReplacementRule}
 use Rattle.prem_gate.specs.declared.request.Request.{Request}
 use Rattle.prem_cycle.specs.State.{Setup, MachineState}
@@ -15,6 +14,7 @@ use Rattle.prem_profile.specs.Strips.{Strip, first_row, rows_of, set_rows, strip
 use Rattle.prem_profile.specs.Entries.{RowsAddUp}
 use Rattle.prem_profile.proofs.Turns.{same_cost, plus_none}
 use Rattle.prem_profile.proofs.Booking.{with_row}
+use Rattle.prem_profile.proofs.Numbers.{is_less}
 
 -- ---- the rows of words are there
 
@@ -44,9 +44,6 @@ strips_below : (n : ℕ) (words : List ℕ) (row : ℕ) (strips : List Strip) �
 strips_below n words row [] le below = below
 strips_below n words row (s ∷ ss) le below =
     strips_below n (set_rows words (s.at / 4) row s.count) (row + s.count) ss (omega (arith, le)) (rows_below n words (s.at / 4) row s.count (omega (arith, le)) below)
-
-is_less : (m n : ℕ) → nat_lt m n ≡ true → m < n
-is_less m n e = grind (arith, nat_tests)
 
 pub switch_below : (tasks k n : ℕ) → 2 + tasks ≤ n → switch_row tasks k < n
 switch_below tasks k n le = by (nat_lt k tasks) refl

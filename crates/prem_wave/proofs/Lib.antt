@@ -4,6 +4,8 @@ pub mod Kept
 pub mod Counting
 pub mod Between
 pub mod ReadBack
+pub mod LinesOfWords
+pub mod Reading
 pub mod Digits
 pub mod Declared
 pub mod Simulated

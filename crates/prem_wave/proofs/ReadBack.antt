@@ -2,9 +2,20 @@
 use Rattle.std.specs.Prelude.{nat_le, slice_get}
 use Rattle.std.proofs.Common.{◌≡◌, ℕ, zero, suc, ◌+◌, ◌-◌, ◌<◌, ◌≤◌, ◌==◌, Bool, true, false, cond, List, [], ◌∷◌, ◌++◌, Option, Some, None, length, refl, ap, sym, ◌∙◌, subst, arith, append-nil}
 use Rattle.std.proofs.lemmas.Bool.Decides.{nat_tests}
-use Rattle.prem_wave.specs.Dump.{Change, Moment, changes_from, is_known, last_of, moment_at, moments_of, same_value, told_at, told_by}
-use Rattle.prem_wave.specs.ReadBack.{DumpsAreReadBack}
+use Rattle.prem_wave.specs.Dump.{Change, Moment, changes_from, is_known, last_of, moment_at, moments_of, same_value}
 use Rattle.prem_wave.proofs.Between.{early}
+
+-- ---- what changes say
+
+-- behind these changes, of a signal that had this value before them
+abbrev pub told_by : ℕ → List Change → Option (Option ℕ) → Option (Option ℕ)
+told_by k [] before = before
+told_by k (c ∷ changes) before = told_by k changes (cond (c.signal == k) (Some c.value) before)
+
+-- the value that moments give a signal in cycle n: that of its last change at or before n
+abbrev pub told_at : (k n : ℕ) → List Moment → Option (Option ℕ) → Option (Option ℕ)
+told_at k n [] before = before
+told_at k n (m ∷ moments) before = told_at k n moments (cond (nat_le m.at n) (told_by k m.changes before) before)
 
 -- ---- one cycle
 
@@ -149,6 +160,3 @@ module _ (all : ℕ → List (Option ℕ)) (from size : ℕ) (each : (n : ℕ) �
       let d = to - suc n in
       let e : to ≡ suc n + d = omega (arith, high) in
       ap (λ c. told_at k n (moments_of all from c) None) e ∙ told_on k n d ∙ told_last k n (suc n) (omega arith) ∙ ap (λ xs. slice_get xs k) (last_there n low)
-
-pub dumps_are_read_back : DumpsAreReadBack
-dumps_are_read_back values from to size each signal n low high = read_back values from size each signal n to low high

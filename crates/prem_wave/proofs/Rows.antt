@@ -3,7 +3,8 @@ use Rattle.std.specs.Prelude.{codes}
 use Rattle.std.specs.Fmt.{digits}
 use Rattle.std.proofs.Common.{◌≡◌, ℕ, zero, suc, List, [], ◌∷◌, Option, Some, None, refl}
 use Rattle.prem_wave.specs.declared.words.TheConstants.{CORE_BACK, CORE_FILL, COMPATIBLE, DEVICE, DONE, EXECUTION, FREE, GET, MEMORY, PUT, RELEASED, SWITCH, WAIT}
-use Rattle.prem_wave.specs.Dump.{last_of, moments_of, moments_text, told_at}
+use Rattle.prem_wave.specs.Dump.{last_of, moments_of, moments_text}
+use Rattle.prem_wave.specs.Reading.{number_told, value_in}
 use Rattle.prem_wave.specs.Signals.{spelled}
 
 row_done : DONE ≡ spelled (codes "done")
@@ -60,11 +61,35 @@ row_later : moments_text (moments_of sample 1 3) ≡ codes "#1\nb1 0\nbz 1\n#2\n
 unfolding moments_of last_of digits
 row_later = refl
 
--- what it tells of the first signal in cycle 1, and in cycle 2
-row_told : told_at 0 1 (moments_of sample 0 3) None ≡ Some (Some 1)
-unfolding moments_of last_of
-row_told = refl
+-- ---- what a reader finds
 
-row_told_last : told_at 0 2 (moments_of sample 0 3) None ≡ Some (Some 5)
-unfolding moments_of last_of
-row_told_last = refl
+-- a dump with other codes than numbers
+abbrev foreign : List ℕ
+foreign = codes "$scope module top $end\n$var wire 8 ! speed $end\n$var wire 1 %a on $end\n$upscope $end\n$enddefinitions $end\n#3\nb1 !\nbz %a\n#7\nb101 !\n#9\nb0 %a\n#20\n"
+
+row_before : value_in 0 2 foreign ≡ None
+row_before = refl
+
+row_first : value_in 0 3 foreign ≡ Some (codes "1")
+row_first = refl
+
+row_stays : value_in 0 6 foreign ≡ Some (codes "1")
+row_stays = refl
+
+row_changes : value_in 0 7 foreign ≡ Some (codes "101")
+row_changes = refl
+
+row_absent : value_in 1 8 foreign ≡ Some (codes "z")
+row_absent = refl
+
+row_last : value_in 1 19 foreign ≡ Some (codes "0")
+row_last = refl
+
+row_undeclared : value_in 2 19 foreign ≡ None
+row_undeclared = refl
+
+row_number : number_told (codes "101") ≡ Some 5
+row_number = refl
+
+row_no_number : number_told (codes "z") ≡ None
+row_no_number = refl

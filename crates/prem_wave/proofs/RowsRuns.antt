@@ -1,10 +1,14 @@
 -- The signals of a worked run, computed: a wrong value anywhere is refused.
-use Rattle.std.proofs.Common.{◌≡◌, ℕ, suc, List, [], ◌∷◌, Option, Some, None, map, refl}
+use Rattle.std.proofs.Common.{◌≡◌, ℕ, suc, List, [], ◌∷◌, Option, Some, None, map, refl, arith}
 use Rattle.prem_gate.specs.declared.request.Request.{Request}
-use Rattle.prem_cycle.specs.State.{MachineState, Setup}
+use Rattle.prem_cycle.specs.State.{MachineState, Setup, rule_in}
 use Rattle.prem_cycle.specs.Run.{cycles_of}
 use Rattle.prem_cycle.proofs.Images.{alone, device, marked, plant, put, run, task}
 use Rattle.prem_wave.specs.declared.words.TheConstants.{CORE_BACK, CORE_FILL, COMPATIBLE, DEVICE, EXECUTION, FREE, MEMORY, PUT, SWITCH, WAIT}
+use Rattle.prem_wave.specs.Dump.{value_text}
+use Rattle.prem_wave.specs.Reading.{value_in}
+use Rattle.prem_wave.specs.Waves.{wave_text}
+use Rattle.prem_wave.proofs.Reading.{waves_are_read_back}
 use Rattle.prem_wave.specs.Signals.{before_of, bus_after, bus_word, values_of}
 
 -- one task with a device whose transfers take 40 cycles; two requests come while the marked function's lines are brought in
@@ -54,6 +58,14 @@ row_second = refl
 row_closed : shown 602 ≡ Some 0 ∷ Some 0 ∷ Some SWITCH ∷ Some 0 ∷ Some 1 ∷ Some FREE ∷ Some 0 ∷ Some 0 ∷ Some 0 ∷ None ∷ None ∷ []
 unfolding cycles_of
 row_closed = refl
+
+-- the law on what a reader finds, of the cycles from 20 up to 30: in cycle 21 the core's line comes in
+abbrev begun : MachineState
+begun = run setup marked requests 0
+
+row_read : value_in 5 21 (wave_text (rule_in setup) setup requests begun 20 30) ≡ Some (value_text (Some CORE_FILL))
+unfolding cycles_of
+row_read = waves_are_read_back (rule_in setup) setup requests begun 20 30 (omega arith) (omega arith) 5 21 (Some CORE_FILL) (omega arith) (omega arith) refl
 
 -- ---- two misses of one instruction
 

@@ -56,20 +56,20 @@ devices_wide (name ∷ names) =
     let e : suc (suc (suc (3 * length names))) ≡ 3 * length (name ∷ names) = omega arith in
     ap (λ bits. 64 ∷ 64 ∷ 64 ∷ bits) (devices_wide names) ∙ ap wide e
 
-length_append : (xs ys : List (Option ℕ)) → length (xs ++ ys) ≡ length xs + length ys
+pub length_append : (xs ys : List (Option ℕ)) → length (xs ++ ys) ≡ length xs + length ys
 length_append [] ys = omega arith
 length_append (x ∷ xs) ys = let h = length_append xs ys in omega (arith, h)
 
 -- so many of a size
-abbrev times : ℕ → ℕ → ℕ
+abbrev pub times : ℕ → ℕ → ℕ
 times size zero = 0
 times size (suc n) = times size n + size
 
-times_three : (n : ℕ) → times 3 n ≡ 3 * n
+pub times_three : (n : ℕ) → times 3 n ≡ 3 * n
 times_three zero = omega arith
 times_three (suc n) = let h = times_three n in omega (arith, h)
 
-each_length : (f : ℕ → List (Option ℕ)) (size n : ℕ) → ((k : ℕ) → length (f k) ≡ size) → length (each f n) ≡ times size n
+pub each_length : (f : ℕ → List (Option ℕ)) (size n : ℕ) → ((k : ℕ) → length (f k) ≡ size) → length (each f n) ≡ times size n
 each_length f size zero h = refl
 each_length f size (suc n) h =
     let before = each_length f size n h in
@@ -214,14 +214,14 @@ dump_is tasks devices all from to fits =
           ∙ append_assoc _ (codes "$enddefinitions $end\n") (moments_text (moments_of all from to) ++ time_text to);
     }
 
-names_tasks : (p : Setup) → length (task_names p.tasks) ≡ length p.tasks
+pub names_tasks : (p : Setup) → length (task_names p.tasks) ≡ length p.tasks
 names_tasks p = go p.tasks
   where
     go : (xs : List TaskRecord) → length (task_names xs) ≡ length xs
     go [] = refl
     go (x ∷ xs) = ap suc (go xs)
 
-names_devices : (p : Setup) → length (device_names p.devices) ≡ length p.devices
+pub names_devices : (p : Setup) → length (device_names p.devices) ≡ length p.devices
 names_devices p = go p.devices
   where
     go : (xs : List DeviceRecord) → length (device_names xs) ≡ length xs

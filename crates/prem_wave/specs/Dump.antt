@@ -74,15 +74,3 @@ moment_text m = time_text m.at ++ changes_text m.changes
 
 abbrev pub moments_text : List Moment → List ℕ
 moments_text moments = flat_map moment_text moments
-
--- ---- what a dump says
-
--- behind these changes, of a signal that had this value before them
-abbrev pub told_by : ℕ → List Change → Option (Option ℕ) → Option (Option ℕ)
-told_by k [] before = before
-told_by k (c ∷ changes) before = told_by k changes (if c.signal == k then Some c.value else before)
-
--- the value that a dump gives a signal in cycle n: that of its last change at or before n
-abbrev pub told_at : (k n : ℕ) → List Moment → Option (Option ℕ) → Option (Option ℕ)
-told_at k n [] before = before
-told_at k n (m ∷ moments) before = told_at k n moments (if nat_le m.at n then told_by k m.changes before else before)

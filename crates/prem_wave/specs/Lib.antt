@@ -6,6 +6,7 @@ pub mod Grammar
 pub mod Signals
 pub mod Calls
 pub mod Waves
+pub mod Reading
 pub mod ReadBack
 pub mod Laws
 pub mod Answer

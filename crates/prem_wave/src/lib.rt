@@ -13,7 +13,7 @@ mod top;
 mod tracing;
 mod words;
 
-pub use laws::{dumps_are_read_back, waves_are_dumps};
+pub use laws::{values_are_read_back, waves_are_dumps, waves_are_read_back};
 pub use prem_answer::Status;
 pub use top::waves;
 pub use tracing::wave;

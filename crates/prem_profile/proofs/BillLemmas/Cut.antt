@@ -21,9 +21,7 @@ use Rattle.prem_profile.specs.Bound.Statements.{CallBill, choice_bill, head_end,
 use Rattle.prem_profile.specs.Bound.Passages.{Stubs, closed_bill, cut_bill, first_passage, parted_bill, passage_bill}
 use Rattle.prem_profile.specs.Bound.Memory.{alone_bill, cut_part_bill}
 use Rattle.prem_profile.proofs.BillLemmas.Slots.{past}
-
-false_true : false ≡ true → ⊥
-false_true e = cc
+use Rattle.prem_profile.proofs.Numbers.{false_true}
 
 -- a statement where it has marked calls, the passage behind it, and the rest
 cut_join : (b : Bool) (a p r : Bill) → b ≡ true → by_cut b (a ++ p) [] ++ r ≡ a ++ (p ++ r)

@@ -39,6 +39,7 @@ use Rattle.prem_profile.specs.Bound.Spread.{calls_on, item_told, items_often, sp
 use Rattle.prem_profile.specs.Bound.Statements.{CallBill, apart_bill, call_at, called_bill, choice_bill, head_end, inner_end, least_bill, over_place, turns_bill}
 use Rattle.prem_profile.specs.Bound.Tasks.{bills_of, body_begin, body_end, function_bill, job_bill, start_bill, stubs_of, task_bill}
 use Rattle.prem_profile.proofs.BillLemmas.Each.{AllOf, AreAll, all_append, all_at, all_dearer, all_one, all_times, known_all, none_all, path_all, pieces_all, timed}
+use Rattle.prem_profile.proofs.Numbers.{true_false}
 
 pub record IsLean (x : Item) : Type 0 where
   pub instructions : x.cost.instructions ≤ x.cost.cycles
@@ -148,9 +149,6 @@ instruction_lean at miss lines i some =
 
 abbrev IsLeanTold : Item → Type 0
 IsLeanTold x = is_call x.spot ≡ false → IsLean x
-
-true_false : true ≡ false → ⊥
-true_false e = cc
 
 call_lean : (f n : ℕ) → AreAll IsLeanTold (call_items f n)
 call_lean f zero = tt

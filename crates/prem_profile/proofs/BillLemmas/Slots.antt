@@ -1,8 +1,7 @@
 -- Bills that are gathered by slots.
 use Rattle.std.specs.Prelude.{◌==◌, ◌-◌, min, max, slice_index_or, slice_set}
-use Rattle.std.proofs.Common.{◌≡◌, ◌≢◌, ℕ, zero, suc, ◌+◌, ◌*◌, ◌/◌, ◌≤◌, ◌<◌, Bool, true, false, cond, List, [], ◌∷◌, ◌++◌, drop, length, replicate, refl, ap, sym, subst, ◌∙◌, ⊎_elim, arith}
+use Rattle.std.proofs.Common.{◌≡◌, ◌≢◌, ℕ, zero, suc, ◌+◌, ◌*◌, ◌/◌, ◌≤◌, ◌<◌, Bool, true, false, cond, List, [], ◌∷◌, ◌++◌, drop, length, refl, ap, sym, subst, ◌∙◌, ⊎_elim, arith}
 use Rattle.std.proofs.lemmas.Bool.{cases_eq}
-use Rattle.std.proofs.lemmas.Bool.Decides.{nat_tests}
 use Rattle.std.proofs.lemmas.List.{get_or-set_same, get_or-set_other, length-set}
 use Rattle.prem_profile.specs.declared.bound.bill.Item.{Item}
 use Rattle.prem_profile.specs.declared.bound.bill.Spot.{Spot}
@@ -10,6 +9,7 @@ use Rattle.prem_profile.specs.declared.bound.bill.Spot.TheVariants.{Switch, At, 
 use Rattle.prem_profile.specs.declared.cost.Cost.{Cost}
 use Rattle.prem_profile.specs.Bound.Bills.{Bill, is_one, spent_at, told_plus, with_item}
 use Rattle.prem_profile.specs.Bound.Slots.{items_with, lower, lowest, more_at, nothing_spent, slot_of, slots_by, slots_for, slots_with}
+use Rattle.prem_profile.proofs.Numbers.{equal_test, are_equal, more_test, true_false, zeros, zero_at}
 
 -- ---- items in memory
 
@@ -33,18 +33,6 @@ set_is (x ∷ xs) zero c = refl
 set_is (x ∷ xs) (suc r) c = ap (λ ys. x ∷ ys) (set_is xs r c)
 
 -- ---- spots and their slots
-
-equal_test : (m n : ℕ) → m ≡ n → (m == n) ≡ true
-equal_test m n e = grind (arith, nat_tests)
-
-are_equal : (m n : ℕ) → (m == n) ≡ true → m ≡ n
-are_equal m n e = grind (arith, nat_tests)
-
-more_test : (m n : ℕ) → n < m → (m == n) ≡ false
-more_test m n lt = grind (arith, nat_tests)
-
-true_false : true ≡ false → ⊥
-true_false e = cc
 
 -- two tests of which each one's numbers are equal where the other's are
 tests_agree : (m n a b : ℕ) → (m ≡ n → a ≡ b) → (a ≡ b → m ≡ n) → (m == n) ≡ (a == b)
@@ -246,15 +234,6 @@ all_within low n (x ∷ bill) =
       above n s c le = omega (arith, le)
 
 -- ---- none
-
-abbrev pub zeros : ℕ → List ℕ
-zeros n = replicate n 0
-
-zero_at : (n slot : ℕ) → slice_index_or (zeros n) slot 0 ≡ 0
-zero_at zero zero = refl
-zero_at zero (suc slot) = refl
-zero_at (suc n) zero = refl
-zero_at (suc n) (suc slot) = zero_at n slot
 
 pub slots_none : (low n : ℕ) (slots : List ℕ) (bill : Bill) → slots ≡ zeros n → bill ≡ [] → AreSlots low slots bill
 slots_none low n slots bill is none slot lt = ap (λ ss. slice_index_or ss slot 0) is ∙ zero_at n slot ∙ sym (ap (place_of low slot) none)

@@ -1,7 +1,7 @@
 -- Functions that are told in memory as often as they are called, from the last one to the first one.
 use Rattle.std.specs.Prelude.{◌==◌, Vec, slice_index_or, take}
 use Rattle.std.specs.Global.{Global}
-use Rattle.std.proofs.Common.{◌≡◌, ℕ, zero, suc, ◌+◌, ◌*◌, ◌<◌, Bool, true, false, cond, List, [], ◌∷◌, ◌++◌, append_assoc, append-nil, length, replicate, get_or, refl, ap, sym, subst, ◌∙◌, arith}
+use Rattle.std.proofs.Common.{◌≡◌, ℕ, zero, suc, ◌+◌, ◌*◌, ◌<◌, Bool, true, false, cond, List, [], ◌∷◌, ◌++◌, append_assoc, append-nil, length, get_or, refl, ap, sym, subst, ◌∙◌, arith}
 use Rattle.std.proofs.Math.Nat.{mul-add}
 use Rattle.std.proofs.lemmas.List.{map-append}
 use Rattle.prem_bounds.specs.Scale.{clipped}
@@ -16,20 +16,12 @@ use Rattle.prem_profile.specs.Bound.Spread.{Counts, calls_for, calls_on, item_ca
 use Rattle.prem_profile.proofs.BillLemmas.Booked.{taken_more}
 use Rattle.prem_profile.proofs.BillLemmas.Each.{timed}
 use Rattle.prem_profile.proofs.BoundLemmas.Spread.{told_times}
+use Rattle.prem_profile.proofs.Numbers.{zeros, zero_at}
 
 -- ---- counts
 
 pub counts_same : (counts : List ℕ) (a b : ℕ → ℕ) → ((f : ℕ) → a f ≡ b f) → Counts counts a → Counts counts b
 counts_same counts a b e h f lt = h f lt ∙ ap clipped (e f)
-
-abbrev zeros : ℕ → List ℕ
-zeros n = replicate n 0
-
-zero_at : (n f : ℕ) → slice_index_or (zeros n) f 0 ≡ 0
-zero_at zero zero = refl
-zero_at zero (suc f) = refl
-zero_at (suc n) zero = refl
-zero_at (suc n) (suc f) = zero_at n f
 
 -- what is there doesn't go by what is told elsewhere
 inside : (counts : List ℕ) (f d e : ℕ) → f < length counts → slice_index_or counts f d ≡ slice_index_or counts f e

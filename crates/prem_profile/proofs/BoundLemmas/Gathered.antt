@@ -1,7 +1,6 @@
 -- Gathered bills come to what bills come to, in all and in each row, and have one item for each spot.
 use Rattle.std.specs.Prelude.{◌==◌, ◌||◌, slice_index_or}
 use Rattle.std.proofs.Common.{◌≡◌, ℕ, ◌/◌, Bool, true, false, cond, List, [], ◌∷◌, refl, ap, sym, ◌∙◌, arith}
-use Rattle.std.proofs.lemmas.Bool.Decides.{nat_tests}
 use Rattle.prem_bounds.specs.Scale.{clipped}
 use Rattle.prem_profile.specs.declared.bound.bill.Item.{Item}
 use Rattle.prem_profile.specs.declared.bound.bill.Spot.{Spot}
@@ -13,18 +12,7 @@ use Rattle.prem_profile.specs.Account.{is_in_row, row_of}
 use Rattle.prem_profile.specs.Bound.Bills.{Bill, gathered, home_of, is_one, spent_at, told_plus, total, with_bill, with_item}
 use Rattle.prem_profile.specs.Bound.Booked.{spent_on}
 use Rattle.prem_profile.specs.Bound.Gathered.{AreAlike, AreApart, BillsAreGathered, has_spot}
-
-are_equal : (m n : ℕ) → (m == n) ≡ true → m ≡ n
-are_equal m n e = grind (arith, nat_tests)
-
-is_equal : (m n : ℕ) → m ≡ n → (m == n) ≡ true
-is_equal m n e = grind (arith, nat_tests)
-
-false_true : false ≡ true → ⊥
-false_true e = cc
-
-true_false : true ≡ false → ⊥
-true_false e = cc
+use Rattle.prem_profile.proofs.Numbers.{equal_test, are_equal, true_false, false_true}
 
 -- ---- costs that are told alike
 
@@ -145,7 +133,7 @@ turned : (m n : ℕ) → (m == n) ≡ false → (n == m) ≡ false
 turned m n e = by (n == m) refl where
   by : (t : Bool) → (n == m) ≡ t → t ≡ false
   by false d = refl
-  by true d = absurd (true_false (sym (is_equal m n (sym (are_equal n m d))) ∙ e))
+  by true d = absurd (true_false (sym (equal_test m n (sym (are_equal n m d))) ∙ e))
 
 other_way : (a b : Spot) → is_one a b ≡ false → is_one b a ≡ false
 other_way (Switch j) (Switch k) e = turned j k e

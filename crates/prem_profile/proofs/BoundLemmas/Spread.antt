@@ -19,26 +19,12 @@ use Rattle.prem_profile.specs.Bound.Scopes.{bills_behind, cycles_of, path_with}
 use Rattle.prem_profile.specs.Bound.Spread.{calls_for, calls_on, item_calls, items_often, spread, spot_calls, without_calls}
 use Rattle.prem_profile.proofs.BillLemmas.Each.{AreAll, all_one, pieces_all, timed}
 use Rattle.prem_profile.proofs.BoundLemmas.Sums.{Comes, cycles_at, on_append, same_then, times, twice}
+use Rattle.prem_profile.proofs.Numbers.{are_equal, more_test, is_less, is_more, true_false}
 
 -- ---- numbers
 
-are_equal : (m n : ℕ) → (m == n) ≡ true → m ≡ n
-are_equal m n e = grind (arith, nat_tests)
-
-more_test : (m n : ℕ) → n < m → (m == n) ≡ false
-more_test m n lt = grind (arith, nat_tests)
-
 still_less : (m n : ℕ) → m < suc n → (m == n) ≡ false → m < n
 still_less m n lt e = grind (arith, nat_tests)
-
-is_less : (m n : ℕ) → nat_lt m n ≡ true → m < n
-is_less m n e = grind (arith, nat_tests)
-
-is_more : (m n : ℕ) → nat_lt m n ≡ false → n ≤ m
-is_more m n e = grind (arith, nat_tests)
-
-true_false : true ≡ false → ⊥
-true_false e = cc
 
 none_times : (n : ℕ) → n * 0 ≡ 0
 none_times n = omega arith

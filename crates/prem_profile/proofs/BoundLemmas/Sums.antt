@@ -18,17 +18,12 @@ use Rattle.prem_profile.specs.Bound.Bills.{Bill, bill_times, cheaper, cycles_on,
 use Rattle.prem_profile.specs.Bound.Pieces.{PlaceCost, bill_at, bill_from, call_items, item, jump_item, part_bill, straight_bill}
 use Rattle.prem_profile.specs.Bound.Scopes.{bills_behind, cycles_of}
 use Rattle.prem_profile.proofs.BoundLemmas.Gathered.{totals_kept}
+use Rattle.prem_profile.proofs.Numbers.{is_less, is_more}
 
 -- ---- numbers
 
 pub same_then : (a b c : ℕ) → a + (b + c) ≡ a + b + c
 same_then a b c = omega arith
-
-is_less : (m n : ℕ) → nat_lt m n ≡ true → m < n
-is_less m n e = grind (arith, nat_tests)
-
-is_more : (m n : ℕ) → nat_lt m n ≡ false → n ≤ m
-is_more m n e = grind (arith, nat_tests)
 
 is_most : (m n : ℕ) → nat_le m n ≡ true → m ≤ n
 is_most m n e = grind (arith, nat_tests)

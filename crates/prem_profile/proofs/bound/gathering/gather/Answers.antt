@@ -2,7 +2,8 @@ use Rattle.std.proofs.Common.{◌+◌, ◌<◌, ap, sym, subst, ◌∙◌, arith
 use Rattle.std.proofs.lemmas.List.{drop_more, length-replicate}
 use Rattle.prem_profile.specs.Bound.Bills.{with_bill}
 use Rattle.prem_profile.specs.Bound.Slots.{items_with, nothing_spent, slot_of, slots_for, slots_with}
-use Rattle.prem_profile.proofs.BillLemmas.Slots.{AreFrom, AreSlots, AreWithin, all_from, all_within, from_put, items_put, past, slots_long, slots_none, slots_put, zeros}
+use Rattle.prem_profile.proofs.BillLemmas.Slots.{AreFrom, AreSlots, AreWithin, all_from, all_within, from_put, items_put, past, slots_long, slots_none, slots_put}
+use Rattle.prem_profile.proofs.Numbers.{zeros}
 use Rattle.prem_profile.proofs.bound.gathering.gather.Goals as goal
 
 pub items-init : goal.items-init
