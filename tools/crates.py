@@ -129,7 +129,7 @@ def lacks(word, crate, answers, named):
     if not usage:
         yield f"a usage line in crates/{answers}/src/top.rt"
     else:
-        yield from lacks_of_help(word, commands, commands + re.findall(r"--([a-z]+)", usage.group(1)))
+        yield from lacks_of_help(word, commands + re.findall(r"--([a-z]+)", usage.group(1)))
 
 
 def commands_of(usage):
@@ -137,13 +137,13 @@ def commands_of(usage):
     return [it.split()[0] for it in usage.split(" | ") if re.match(r"[a-z]+ ", it)]
 
 
-def lacks_of_help(word, commands, names):
-    """The completions and the manual that a program with commands has to have, and the names that one of them lacks."""
+def lacks_of_help(word, names):
+    """The completions and the manual that a program has to have, and the commands and options that one of them lacks."""
     for path in (f"completions/{word}.bash", f"completions/_{word}", f"completions/{word}.fish", f"docs/{word}.1"):
         text = read(path)
         if text is not None:
             yield from (f"{it} in {path}" for it in names if not re.search(rf"\b{it}\b", text))
-        elif commands:
+        else:
             yield path
 
 
